@@ -1,0 +1,6 @@
+pub mod Among
+pub mod Below
+pub mod Bytes
+pub mod Sets
+pub mod Tests
+pub mod Text

@@ -1,0 +1,10 @@
+-- Bytes written as text: each character's number. Only ASCII is written so.
+use Prim.Native.Nat.{ℕ}
+use Prim.Native.Char.{Char, code}
+use Prim.Native.String.{String, [], _∷_}
+use mathlib.Core.List as L
+use mathlib.Core.List.{List}
+
+abbrev pub ascii : String → List ℕ
+ascii [] = L.[]
+ascii (c ∷ s) = L._∷_ (code c) (ascii s)
