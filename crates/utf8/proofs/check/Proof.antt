@@ -1,0 +1,77 @@
+-- `utf8::check` meets its contract. The loop's invariant: `i` is within the bytes, and those before it are a text; what is left falls with each turn.
+-- A turn finds a character, and the text goes on to its end, or none, and the longest text ends at `i` (`Turn`). Assumes nothing.
+use Prim.Native.Nat.{_≤_, _-_}
+use denote.Ref.{now}
+use native.Mathlib.Omega.{arith}
+use lib.ListN.{length, take}
+use lib.Seq.{take-all}
+use borrow.Author.Needs.{needs}
+use Rattle.utf8.specs.Rfc3629.{Text, none}
+use Rattle.utf8.proofs.Turn.{some-left, stops, goes-on}
+use Rattle.utf8.proofs.check.Statement.{statement}
+use Rattle.utf8.proofs.check.Tie as tie
+
+abbrev Inv-loop : tie.InvT-loop
+Inv-loop s i₀ i = (i ≤ length s) × Text (take i s)
+
+abbrev μ-loop : tie.MeasureT-loop
+μ-loop s i₀ i = length s - i
+
+loop-holds : tie.Need-loop-holds Inv-loop μ-loop
+loop-holds c = (omega arith, none)
+
+sub-next-len : tie.Need-sub-next-len Inv-loop μ-loop
+sub-next-len c = search needs
+
+part-next-len-start : tie.Need-part-next-len-start Inv-loop μ-loop
+part-next-len-start c = search needs
+
+part-next-len-end : tie.Need-part-next-len-end Inv-loop μ-loop
+part-next-len-end c = search needs
+
+next-len-requires : tie.Need-next-len-requires Inv-loop μ-loop
+next-len-requires c κs =
+    some-left (now (c .before .before .before .before .args .s)) (c .before .before .loop .i) (c .before .loop-test .taken)
+
+returns : tie.Need-returns Inv-loop μ-loop
+returns c =
+    let s = now (c .before .before .before .before .before .before .args .s) in
+    let loop = c .before .before .before .before .loop in
+    let more = c .before .before .before .loop-test .taken in
+    let found = c .before .next-len in
+    (more, stops s (loop .i) more (loop .inv .1) (found .result) (found .ensures) (c .if1 .taken))
+
+loop-again : tie.Need-loop-again Inv-loop μ-loop
+loop-again c =
+    let s = now (c .before .before .before .before .before .before .args .s) in
+    let loop = c .before .before .before .before .loop in
+    let more = c .before .before .before .loop-test .taken in
+    let found = c .before .next-len in
+    goes-on s (loop .i) more (loop .inv .1) (found .result) (found .ensures) (c .if1 .left)
+
+add-i : tie.Need-add-i Inv-loop μ-loop
+add-i c = omega (arith, loop-again c)
+
+loop-less : tie.Need-loop-less Inv-loop μ-loop
+loop-less c = omega (arith, loop-again c)
+
+returns-2 : tie.Need-returns-2 Inv-loop μ-loop
+returns-2 c =
+    rw (take-all (c .before .loop .i) (now (c .before .before .before .args .s)) (c .loop-test .left)) at (c .before .loop .inv .1)
+
+pub check-spec : {M : Type 1} → statement M
+check-spec =
+    tie.close
+    (tie.spec
+    Inv-loop
+    μ-loop
+    loop-holds
+    sub-next-len
+    part-next-len-start
+    part-next-len-end
+    next-len-requires
+    returns
+    add-i
+    loop-less
+    loop-again
+    returns-2)

@@ -1,0 +1,6 @@
+pub mod Rfc3629
+pub mod Scan
+pub mod Characters
+pub mod Laws
+pub mod Examples
+pub mod Decided

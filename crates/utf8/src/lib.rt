@@ -1,0 +1,201 @@
+// UTF-8 (RFC 3629): whether bytes are a text, where the longest text that begins them ends, and where characters start.
+ghost use mathlib.Core.Path.{_≡_};
+ghost use Prim.Native.Nat.{_<_};
+ghost use lib.ListN.{length};
+ghost use Rattle.utf8.specs.Rfc3629.{Encoded, number as number', place as place', tail as tail', boundary as boundary'};
+ghost use Rattle.utf8.specs.Scan.{ones as ones', low as low', high as high', second as second', two as two', three as three', four as four', width};
+
+// A tail, a byte that goes on with a character, is from 80 to BF.
+const TAIL_FIRST: u8 = 0x80;
+
+const TAIL_LAST: u8 = 0xBF;
+
+// The first lead of two bytes, and the last of four.
+const TWO_FIRST: u8 = 0xC2;
+
+const FOUR_LAST: u8 = 0xF4;
+
+// After four leads the second byte's range starts later than a tail's, or ends sooner.
+const LEAD_E0: u8 = 0xE0;
+
+const FIRST_AFTER_E0: u8 = 0xA0;
+
+const LEAD_ED: u8 = 0xED;
+
+const LAST_AFTER_ED: u8 = 0x9F;
+
+const LEAD_F0: u8 = 0xF0;
+
+const FIRST_AFTER_F0: u8 = 0x90;
+
+const LEAD_F4: u8 = 0xF4;
+
+const LAST_AFTER_F4: u8 = 0x8F;
+
+// 01's number of the refusal: not UTF-8.
+const NOT_UTF8: u64 = 2;
+
+// What the check answers.
+pub enum Encoding {
+    // The bytes are a text.
+    Valid,
+    // They are none: the longest text that begins them ends here.
+    Bad(usize),
+}
+
+// The number of 01's table that an answer is: 0, or the refusal's.
+pub fn number(e: Encoding) -> u64
+    ensures { λ r. ⌜ r ≡ number' e ⌝ }
+{
+    match e {
+        Encoding::Valid => 0,
+        Encoding::Bad(_) => NOT_UTF8,
+    }
+}
+
+// The place that goes with it: the first byte that begins no valid character.
+pub fn place(e: Encoding) -> usize
+    ensures { λ r. ⌜ r ≡ place' e ⌝ }
+{
+    match e {
+        Encoding::Valid => 0,
+        Encoding::Bad(at) => at,
+    }
+}
+
+// The count of ones at the top of a byte: what a character's first byte says of its length.
+fn ones(b: u8) -> u32
+    ensures { λ r. ⌜ r ≡ ones' b ⌝ }
+{
+    u8::leading_zeros(!b)
+}
+
+// Whether a byte is a tail.
+fn tail(b: u8) -> bool
+    ensures { λ r. ⌜ r ≡ tail' b ⌝ }
+{
+    (TAIL_FIRST <= b) & (b <= TAIL_LAST)
+}
+
+// The least second byte after a lead of three or four bytes: below it, fewer bytes would do.
+fn low(lead: u8) -> u8
+    ensures { λ r. ⌜ r ≡ low' lead ⌝ }
+{
+    if lead == LEAD_E0 {
+        return FIRST_AFTER_E0;
+    }
+    if lead == LEAD_F0 {
+        return FIRST_AFTER_F0;
+    }
+    TAIL_FIRST
+}
+
+// The greatest second byte after such a lead: above it are surrogates, and what is past U+10FFFF.
+fn high(lead: u8) -> u8
+    ensures { λ r. ⌜ r ≡ high' lead ⌝ }
+{
+    if lead == LEAD_ED {
+        return LAST_AFTER_ED;
+    }
+    if lead == LEAD_F4 {
+        return LAST_AFTER_F4;
+    }
+    TAIL_LAST
+}
+
+// Whether a byte may come second after such a lead.
+fn second(lead: u8, b: u8) -> bool
+    ensures { λ r. ⌜ r ≡ second' lead b ⌝ }
+{
+    (low(lead) <= b) & (b <= high(lead))
+}
+
+// After a lead with two ones: 2 where the character is whole and right, else 0.
+fn two(s: &[u8]) -> usize
+    ensures { λ r. ⌜ r ≡ two' (now (s .entry)) ⌝ }
+{
+    if s.len() < 2 {
+        return 0;
+    }
+    if (TWO_FIRST <= s[0]) & tail(s[1]) {
+        return 2;
+    }
+    0
+}
+
+// After a lead with three ones: 3 where the character is whole and right, else 0.
+fn three(s: &[u8]) -> usize
+    ensures { λ r. ⌜ r ≡ three' (now (s .entry)) ⌝ }
+{
+    if s.len() < 3 {
+        return 0;
+    }
+    if second(s[0], s[1]) & tail(s[2]) {
+        return 3;
+    }
+    0
+}
+
+// After a lead with four ones: 4 where the character is whole and right, else 0.
+fn four(s: &[u8]) -> usize
+    ensures { λ r. ⌜ r ≡ four' (now (s .entry)) ⌝ }
+{
+    if s.len() < 4 {
+        return 0;
+    }
+    if (s[0] <= FOUR_LAST) & (second(s[0], s[1]) & (tail(s[2]) & tail(s[3]))) {
+        return 4;
+    }
+    0
+}
+
+// The length of the character that begins the bytes, by the count of ones of its first byte; 0 where none does.
+fn char_len(s: &[u8]) -> usize
+    requires { ⌜ 0 < length (now s) ⌝ }
+    ensures { λ r. ⌜ r ≡ width (now (s .entry)) ⌝ }
+{
+    let n = ones(s[0]);
+    match n {
+        0 => 1,
+        2 => two(s),
+        3 => three(s),
+        4 => four(s),
+        _ => 0,
+    }
+}
+
+// The same, with the most common first byte, one that has no ones, told by one test.
+fn next_len(s: &[u8]) -> usize
+    requires { ⌜ 0 < length (now s) ⌝ }
+    ensures { λ r. ⌜ r ≡ width (now (s .entry)) ⌝ }
+{
+    if s[0] < TAIL_FIRST {
+        return 1;
+    }
+    char_len(s)
+}
+
+// Whether the bytes are a text, and if not, where the longest text that begins them ends.
+pub fn check(s: &[u8]) -> Encoding
+    ensures { λ r. ⌜ Encoded (now (s .entry)) r ⌝ }
+{
+    let mut i = 0;
+    while i < s.len() {
+        let n = next_len(&s[i..]);
+        if n == 0 {
+            return Encoding::Bad(i);
+        }
+        i += n;
+    }
+    Encoding::Valid
+}
+
+// Whether a place of a text lies between two characters: the end, or the start of a character.
+pub fn boundary(s: &[u8], at: usize) -> bool
+    ensures { λ r. ⌜ r ≡ boundary' (now (s .entry)) at ⌝ }
+{
+    if at < s.len() {
+        return !tail(s[at]);
+    }
+    at == s.len()
+}
