@@ -1,0 +1,4 @@
+pub mod Tests
+pub mod Lengths
+pub mod Runs
+pub mod Count
