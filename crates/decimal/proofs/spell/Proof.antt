@@ -1,0 +1,28 @@
+-- `decimal::spell` meets its contract: the digits stand behind the sign, and zero bytes behind them.
+use native.Mathlib.Omega.{arith}
+use Rattle.decimal.proofs.Whole.{few, spelled-below, spelled-above}
+use borrow.Author.Needs.{needs}
+use Rattle.decimal.proofs.spell.Statement.{statement}
+use Rattle.decimal.proofs.spell.Tie as tie
+
+add-len : tie.Need-add-len
+add-len c = let l = few _ (c .before .before .before .fits .n) _ _ (c .before .before .magnitude .ensures) (c .before .count .ensures) in omega arith
+
+fill-requires : tie.Need-fill-requires
+fill-requires c κs = let l = few _ (c .before .before .before .before .fits .n) _ _ (c .before .before .before .magnitude .ensures) (c .before .before .count .ensures) in omega arith
+
+returns : tie.Need-returns
+returns c = spelled-below _ (c .before .before .before .before .before .fits .n) _ _ (c .before .before .before .before .magnitude .ensures) (c .before .before .before .count .ensures) _ (c .before .before .if1 .taken) (c .fill .ensures)
+
+fill-requires-2 : tie.Need-fill-requires-2
+fill-requires-2 c κs = let l = few _ (c .before .before .before .before .fits .n) _ _ (c .before .before .before .magnitude .ensures) (c .before .before .count .ensures) in omega arith
+
+returns-2 : tie.Need-returns-2
+returns-2 c = spelled-above _ (c .before .before .before .before .before .fits .n) _ _ (c .before .before .before .before .magnitude .ensures) (c .before .before .before .count .ensures) _ (c .before .before .if1 .left) (c .fill2 .ensures)
+
+pub spell-spec : {M : Type 1} → statement M
+spell-spec =
+    tie.close
+    (tie.spec
+    (λ c κs. search needs) (λ c κs. search needs) (λ c. search needs) add-len fill-requires returns
+    fill-requires-2 returns-2)
