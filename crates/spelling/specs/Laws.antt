@@ -1,0 +1,142 @@
+-- Rules of the spelling table, each by one test that is computed over all of its rows, and a law that turns the test into the rule.
+use Prim.Native.Nat.{ℕ, _+_, _*_, _-_, _≤_, _<_}
+use native.Mathlib.Omega.{arith}
+use mathlib.Core.Path.{_≡_, refl, _∙_, sym, ap}
+use mathlib.Core.List.{List, [], _∷_}
+use mathlib.Core.Bool.{Bool, true, false, not, cond, _&&_, _||_, Bool·beq, false≢true, and-false}
+use lib.Dec.{eqb, leb, ltb}
+use lib.ListN.{length, getD, take, drop, List·getD-eq-default}
+use borrow.Author.Tests.{le-leb, lt-leb, leb-true, le-ltb, lt-ltb, ltb-true, ltb-false, ne-eqb}
+use Rattle.laws.specs.Among.{all}
+use Rattle.blank.specs.Blank.{blank}
+use Rattle.laws.specs.Below.{below, at}
+use Rattle.laws.specs.Bytes.{same, equal}
+use Rattle.spelling.specs.Rows.{Row, unknown, rows}
+use Rattle.spelling.specs.Spelling.{row, isKnown, spelled, known, spelling}
+use Rattle.spelling.specs.Table.{bytes, heads, pool, spellingIn, startIn, lengthIn, within, rowsHeld, poolAt}
+
+abbrev count : ℕ
+count = 256
+
+-- past the table no token has the number
+row-past : (k : ℕ) → count ≤ k → row k ≡ unknown
+unfolding row rows
+row-past k h = List·getD-eq-default rows unknown h
+
+-- a rule of every number: by the test below the count, and past it by hand
+everywhere : (P : ℕ → Type 0) (k : ℕ) → (k < count → P k) → (count ≤ k → P k) → P k
+everywhere P k lo hi = by (ltb k count) refl
+  where
+    by : (b : Bool) → ltb k count ≡ b → P k
+    by true e = lo (ltb-true k count e)
+    by false e = hi (ltb-false k count e)
+
+beq : (a b : Bool) → Bool·beq a b ≡ true → a ≡ b
+beq true true h = refl
+beq true false h = absurd (false≢true h)
+beq false true h = absurd (false≢true h)
+beq false false h = refl
+
+-- R1: known are exactly 0 to 168, 185 to 193 and 255
+abbrev pub ranged : ℕ → Bool
+ranged k = (leb k 168 || (leb 185 k && leb k 193)) || eqb k 255
+
+ranged-below : below (λ k. Bool·beq (ranged k) (known k)) count ≡ true
+unfolding known row rows
+ranged-below = refl
+
+ranged-past : (k : ℕ) → count ≤ k → ranged k ≡ known k
+unfolding known
+ranged-past k h =
+    rw (row-past k h, lt-leb k 168 (omega arith), lt-leb k 193 (omega arith), ne-eqb k 255 (λ e. omega arith), and-false)
+
+pub ranged-known : (k : ℕ) → ranged k ≡ known k
+ranged-known k =
+    everywhere (λ n. ranged n ≡ known n) k
+    (λ h. beq (ranged k) (known k) (at (λ n. Bool·beq (ranged n) (known n)) count ranged-below k h))
+    (ranged-past k)
+
+-- the lent table spells every number as the rows do
+spells-below : below (λ k. same (spellingIn bytes k) (spelling k)) count ≡ true
+unfolding spellingIn startIn lengthIn within bytes spelling row rows
+spells-below = refl
+
+spells-past : (k : ℕ) → count ≤ k → spellingIn bytes k ≡ spelling k
+unfolding spellingIn spelling
+spells-past k h = rw (row-past k h, le-ltb k rowsHeld (omega arith))
+
+pub spells : (k : ℕ) → spellingIn bytes k ≡ spelling k
+spells k =
+    everywhere (λ n. spellingIn bytes n ≡ spelling n) k
+    (λ h. equal (spellingIn bytes k) (spelling k) (at (λ n. same (spellingIn bytes n) (spelling n)) count spells-below k h))
+    (spells-past k)
+
+-- each way through a look-up
+pub within-before : (t : List ℕ) (i n : ℕ) → length t < i → [] ≡ within t i n
+unfolding within
+within-before t i n h = rw (lt-leb (i + n) (length t) (omega arith))
+
+pub within-short : (t : List ℕ) (i n : ℕ) → i ≤ length t → length t - i < n → [] ≡ within t i n
+unfolding within
+within-short t i n h l = rw (lt-leb (i + n) (length t) (omega arith))
+
+pub within-whole : (t : List ℕ) (i n e : ℕ) → e ≡ i + n → e ≤ length t → take (e - i) (drop i t) ≡ within t i n
+unfolding within
+within-whole t i n e p h =
+    let q : e - i ≡ n = omega arith in
+    let l : i + n ≤ length t = omega arith in
+    rw (le-leb (i + n) (length t) l, q)
+
+pub spellingIn-past : (t : List ℕ) (k : ℕ) → rowsHeld ≤ k → [] ≡ spellingIn t k
+unfolding spellingIn
+spellingIn-past t k h = rw (le-ltb k rowsHeld h)
+
+pub spellingIn-row : (t w : List ℕ) (k low high len : ℕ) → k < rowsHeld → low ≡ getD t (k * 3) 0 → high ≡ getD t (k * 3 + 1) 0 → len ≡ getD t (k * 3 + 2) 0
+    → w ≡ within t (poolAt + low + 256 * high) len → w ≡ spellingIn t k
+unfolding spellingIn startIn lengthIn
+spellingIn-row t w k low high len h l m n e = rw (lt-ltb k rowsHeld h, ← l, ← m, ← n) e
+
+-- no fixed spelling is longer than AUTOINCREMENT
+abbrev pub longestSpelling : ℕ
+longestSpelling = 13
+
+short-below : below (λ k. leb (length (spelling k)) longestSpelling) count ≡ true
+unfolding spelling row rows
+short-below = refl
+
+short-past : (k : ℕ) → count ≤ k → leb (length (spelling k)) longestSpelling ≡ true
+unfolding spelling
+short-past k h = rw (row-past k h)
+
+pub short : (k : ℕ) → length (spelling k) ≤ longestSpelling
+short k =
+    leb-true (length (spelling k)) longestSpelling
+    (everywhere (λ n. leb (length (spelling n)) longestSpelling ≡ true) k
+    (at (λ n. leb (length (spelling n)) longestSpelling) count short-below k)
+    (short-past k))
+
+-- the row of a number below the rows lies within the table
+bounds-below : below (λ k. leb (startIn bytes k + lengthIn bytes k) (length bytes)) rowsHeld ≡ true
+unfolding startIn lengthIn bytes rows
+bounds-below = refl
+
+pub bounds : (k : ℕ) → k < rowsHeld → startIn bytes k + lengthIn bytes k ≤ length bytes
+bounds k h =
+    leb-true (startIn bytes k + lengthIn bytes k) (length bytes)
+    (at (λ n. leb (startIn bytes n + lengthIn bytes n) (length bytes)) rowsHeld bounds-below k h)
+
+-- no byte of a fixed spelling is a blank
+abbrev pub solid : List ℕ → Bool
+solid w = all (λ b. not (blank b)) w
+
+solid-below : below (λ k. solid (spelling k)) count ≡ true
+unfolding spelling row rows blank
+solid-below = refl
+
+solid-past : (k : ℕ) → count ≤ k → solid (spelling k) ≡ true
+unfolding spelling
+solid-past k h = rw (row-past k h)
+
+pub nonblank : (k : ℕ) → solid (spelling k) ≡ true
+nonblank k =
+    everywhere (λ n. solid (spelling n) ≡ true) k (at (λ n. solid (spelling n)) count solid-below k) (solid-past k)
