@@ -1,0 +1,35 @@
+-- The sink takes everything: a byte that finds no room in the output is only counted.
+use Prim.Native.Nat.{ℕ, _+_, min}
+use mathlib.Core.List.{List}
+use mathlib.Core.Bool.{Bool, true, false}
+use lib.ListN.{length}
+use lib.Seq.{sets}
+use Rattle.stream.specs.Stream.{Value, none, some, added, left}
+use Rattle.stream.specs.declared.Sink.{Sink}
+
+-- a sink and the bytes of the output
+abbrev pub State : Type 0
+State = Sink × List ℕ
+
+-- no count goes past the largest number of the machine, and no output is that long
+abbrev pub most : ℕ
+most = 0xffff_ffff_ffff_ffff
+
+unfoldable pub count : ℕ → ℕ → ℕ
+count at n = min (at + n) most
+
+-- bytes are stored from the count on, as far as there is room, and all are counted
+unfoldable pub pour : State → List ℕ → State
+pour st bs =
+    (record { spaced = st .0 .spaced; at = count (st .0 .at) (length bs) }, sets (st .1) (st .0 .at) bs)
+
+unfoldable pub mark : State → Bool → State
+mark st b = (record { spaced = b; at = st .0 .at }, st .1)
+
+-- one step: kind k, whose fixed spelling is w, with value v
+unfoldable pub step : State → ℕ → List ℕ → Value → State
+step st k w v = mark (pour st (added (st .0 .spaced) k w v)) (left (st .0 .spaced) k w v)
+
+abbrev pub given : Bool → List ℕ → Value
+given true v = some v
+given false v = none

@@ -1,0 +1,152 @@
+// The token stream (01, section 1): one token appended to a sink, by value.
+//
+// The sink takes everything: a byte that finds no room in the output is only counted, so to measure is to
+// append to an empty output, and measuring and writing are one function.
+ghost use mathlib.Core.Path.{_≡_};
+ghost use Prim.Native.Nat.{_+_, _≤_};
+ghost use lib.ListN.{length};
+ghost use lib.Seq.{sets};
+ghost use Rattle.stream.specs.Stream.{tight as tight', opens as opens', gap as gap', gapped, blob as blob', spelledBit, written, valuedBit};
+ghost use Rattle.stream.specs.Sink.{count, pour, mark, given, step};
+use spelling::token::TK_BLOB;
+use spelling::token::TK_COMMA;
+use spelling::token::TK_DOT;
+use spelling::token::TK_LBRACKET;
+use spelling::token::TK_LP;
+use spelling::token::TK_RBRACKET;
+use spelling::token::TK_RP;
+use spelling::token::TK_SEMI;
+
+const MOST: usize = 0xffff_ffff_ffff_ffff;
+
+pub struct Sink {
+    pub spaced: bool,
+    pub at: usize,
+}
+
+// n more, but no more than the largest number.
+fn plus(at: usize, n: usize) -> usize
+    ensures { λ r. ⌜ r ≡ count at n ⌝ }
+{
+    if n <= MOST - at { at + n } else { MOST }
+}
+
+// v from at on, where there is room for all of it.
+fn copy_to(out: &mut [u8], at: usize, v: &[u8])
+    requires { ⌜ at + length (now v) ≤ length (now out) ⌝ }
+    ensures { λ _. ⌜ now (out .exit) ≡ sets (now (out .entry)) at (now (v .entry)) ⌝ }
+{
+    bytes::copy(v, &mut out[at..]);
+}
+
+// v from at on, as much of it as there is room for.
+fn store(out: &mut [u8], at: usize, v: &[u8])
+    ensures { λ _. ⌜ now (out .exit) ≡ sets (now (out .entry)) at (now (v .entry)) ⌝ }
+{
+    if out.len() <= at {
+        return;
+    }
+    let room = out.len() - at;
+    if v.len() <= room {
+        copy_to(out, at, v);
+    } else {
+        copy_to(out, at, &v[..room]);
+    }
+}
+
+// Bytes are stored and counted.
+fn put(s: Sink, out: &mut [u8], v: &[u8]) -> Sink
+    ensures { λ r. ⌜ (r, now (out .exit)) ≡ pour (s, now (out .entry)) (now (v .entry)) ⌝ }
+{
+    store(out, s.at, v);
+    Sink {
+        spaced: s.spaced,
+        at: plus(s.at, v.len()),
+    }
+}
+
+// Whether a kind is written with no space before it.
+fn tight(kind: u16) -> bool
+    ensures { λ r. ⌜ r ≡ tight' kind ⌝ }
+{
+    (kind == TK_COMMA)
+        | ((kind == TK_SEMI)
+            | ((kind == TK_RP)
+                | ((kind == TK_DOT) | ((kind == TK_LBRACKET) | (kind == TK_RBRACKET)))))
+}
+
+// Whether the spelling of a kind sets the bit.
+fn opens(kind: u16) -> bool
+    ensures { λ r. ⌜ r ≡ opens' kind ⌝ }
+{
+    (kind == TK_LP) | ((kind == TK_DOT) | (kind == TK_LBRACKET))
+}
+
+// The space before a token, where there is one.
+fn gap(s: Sink, out: &mut [u8], kind: u16) -> Sink
+    ensures { λ r. ⌜ (r, now (out .exit)) ≡ mark (pour (s, now (out .entry)) (gap' (s .spaced) kind)) (gapped (s .spaced) kind) ⌝ }
+{
+    if s.spaced | tight(kind) {
+        s
+    } else {
+        let t = put(s, out, b" ");
+        Sink {
+            spaced: true,
+            at: t.at,
+        }
+    }
+}
+
+// A blob: the value, or X'' if there is none.
+fn blob(s: Sink, out: &mut [u8], has: bool, value: &[u8]) -> Sink
+    ensures { λ r. ⌜ (r, now (out .exit)) ≡ pour (s, now (out .entry)) (blob' (given has (now (value .entry)))) ⌝ }
+{
+    if has {
+        put(s, out, value)
+    } else {
+        put(s, out, b"X''")
+    }
+}
+
+// The fixed spelling, where there is one.
+fn spell(s: Sink, out: &mut [u8], kind: u16, word: &[u8]) -> Sink
+    ensures { λ r. ⌜ (r, now (out .exit)) ≡ mark (pour (s, now (out .entry)) (now (word .entry))) (spelledBit (s .spaced) kind (now (word .entry))) ⌝ }
+{
+    if word.len() == 0 {
+        s
+    } else {
+        let t = put(s, out, word);
+        Sink {
+            spaced: opens(kind),
+            at: t.at,
+        }
+    }
+}
+
+// The value, where there is one.
+fn valued(s: Sink, out: &mut [u8], has: bool, value: &[u8]) -> Sink
+    ensures { λ r. ⌜ (r, now (out .exit)) ≡ mark (pour (s, now (out .entry)) (written (given has (now (value .entry))))) (valuedBit (s .spaced) (given has (now (value .entry)))) ⌝ }
+{
+    if has {
+        let t = put(s, out, value);
+        Sink {
+            spaced: blank::all_blank(value),
+            at: t.at,
+        }
+    } else {
+        s
+    }
+}
+
+// One token: a kind, word, which is the fixed spelling of its kind, and a value where has.
+pub fn append(s: Sink, out: &mut [u8], kind: u16, word: &[u8], has: bool, value: &[u8]) -> Sink
+    ensures { λ r. ⌜ (r, now (out .exit)) ≡ step (s, now (out .entry)) kind (now (word .entry)) (given has (now (value .entry))) ⌝ }
+{
+    let t = gap(s, out, kind);
+    if kind == TK_BLOB {
+        blob(t, out, has, value)
+    } else {
+        let u = spell(t, out, kind, word);
+        valued(u, out, has, value)
+    }
+}
