@@ -1,0 +1,254 @@
+-- Laws of append, for the proofs of its functions.
+use Prim.Native.Nat.{ℕ, _+_, _-_, _^_, _≤_, _<_}
+use native.Mathlib.Omega.{arith}
+use mathlib.Core.Path.{_≡_, refl, _∙_, ap, sym}
+use mathlib.Core.List.{List, [], _∷_, _++_}
+use mathlib.Core.Bool.{Bool, true, false, not, cond, _&&_, _||_}
+use lib.Dec.{ltb, leb, eqb}
+use lib.ListN.{length, take, drop, length-append}
+use lib.Seq.{sets, sets-eq}
+use borrow.Rule.Slice.PartMut.{midOf, putMid}
+use native.Mathlib.Nat.{zero-add, suc-ne-zero}
+use borrow.Author.Tests.{lt-ltb, le-ltb, lt-leb, le-leb, ltb-false, eq-eqb, ne-eqb}
+use Rattle.utf8.specs.Rfc3629 as utf8
+use Rattle.utf8.specs.Rfc3629.{Encoded}
+use Rattle.utf8.specs.Laws.{encoded-unique}
+use Rattle.utf8.specs.Decided.{decided}
+use Rattle.utf8.specs.declared.Encoding.{Encoding}
+use Rattle.utf8.specs.declared.Encoding.the-variants.{Valid, Bad}
+use Rattle.spelling.specs.Spelling.{known, spelling}
+use Rattle.spelling.specs.Table.{bytes, spellingIn}
+use Rattle.spelling.specs.Token.{TK-BLOB}
+use Rattle.spelling.specs.Laws.{spells, short}
+use Rattle.laws.specs.Text.{ascii}
+use Rattle.laws.specs.Sets.{sets-within}
+use Rattle.stream.specs.Stream.{Value, none, some, tight, gap, blob, written, added, adds, leaves}
+use Rattle.stream.specs.Sink.{State, most, pour, mark, step, given}
+use Rattle.stream.specs.Laws.{count-fits}
+use Rattle.append.specs.declared.Stream.{Stream}
+use Rattle.append.specs.declared.Answer.{Answer}
+use Rattle.append.specs.declared.Answer.the-variants.{Added, Malformed, Unknown, TooLong, Broken, NoRoom}
+use Rattle.append.specs.declared.Check.{Check}
+use Rattle.append.specs.declared.Check.the-variants.{Fine, Refused}
+use Rattle.append.specs.Append.{Appends, numberOf, present, tokenOf, news, longest, broken, first, before, room, answerTo, recordAfter, outputAfter, place}
+use Rattle.append.specs.Steps.{refusing, Checks, Writes, emitted}
+
+-- ---- the refusals 1, 4, 2: each return is the first condition that holds
+module _ (rec : Stream) (size token : ℕ) (value : List ℕ) where
+  any : (r : Check) → ((e : Encoding) → r ≡ first (refusing (before e rec size token value)) Fine) → Checks rec size token value r
+  any r is = let d = decided value in record { encoding = d .0; encoded = d .1; is = is (d .0) }
+
+  pub malformed : size < rec .count → Checks rec size token value (Refused Malformed)
+  unfolding before
+  malformed h = any (Refused Malformed) (λ e. rw (lt-ltb size (rec .count) h))
+
+  module _ (k : Bool) (c : rec .count ≤ size) (is-known : k ≡ known (numberOf token)) where
+    pub unknown : not k ≡ true → Checks rec size token value (Refused Unknown)
+    unfolding before
+    unknown h = any (Refused Unknown) (λ e. rw (le-ltb size (rec .count) c, ← is-known, h))
+
+    module _ (p : Bool) (kn : not k ≡ false) (is-present : p ≡ present token) where
+      pub stray : (not p && ltb 0 (length value)) ≡ true → Checks rec size token value (Refused Unknown)
+      unfolding before
+      stray h = any (Refused Unknown) (λ e. rw (le-ltb size (rec .count) c, ← is-known, kn, ← is-present, h))
+
+      module _ (st : (not p && ltb 0 (length value)) ≡ false) where
+        pub too-long : longest < length value → Checks rec size token value (Refused TooLong)
+        unfolding before
+        too-long h = any (Refused TooLong) (λ e. rw (le-ltb size (rec .count) c, ← is-known, kn, ← is-present, st, lt-ltb longest (length value) h))
+
+        module _ (e : Encoding) (m : ℕ) (l : length value ≤ longest) (en : Encoded value e) (is : m ≡ utf8.number e) where
+          pub ill : (m ≡ 0 → ⊥) → Checks rec size token value (Refused (Broken e))
+          unfolding before broken
+          ill h = record { encoding = e; encoded = en; is = rw (le-ltb size (rec .count) c, ← is-known, kn, ← is-present, st, le-ltb longest (length value) l, ← is, ne-eqb m 0 h) }
+
+          pub fine : m ≡ 0 → Checks rec size token value Fine
+          unfolding before broken
+          fine h = record { encoding = e; encoded = en; is = rw (le-ltb size (rec .count) c, ← is-known, kn, ← is-present, st, le-ltb longest (length value) l, ← is, eq-eqb m 0 h) }
+
+-- ---- the bytes
+pub emit-step : (x : State) (b p : Bool) (part value table word : List ℕ) (token k : ℕ) → k ≡ numberOf token → p ≡ present token → table ≡ bytes → word ≡ spellingIn table k
+    → x ≡ step (record { spaced = b; at = 0 }, part) k word (given p value) → x ≡ emitted b part token value
+unfolding emitted step adds leaves tokenOf
+emit-step x b p part value table word token k ek ep t w e =
+    let q : word ≡ spelling k = w ∙ ap (λ (l : List ℕ). spellingIn l k) t ∙ spells k in
+    rw (q, ek, ep) at e
+
+-- ---- how many they are
+size : Value → ℕ
+size none = 0
+size (some v) = length v
+
+gap-length : (b : Bool) (k : ℕ) → length (gap b k) ≤ 1
+unfolding gap
+gap-length b k = by (b || tight k)
+  where
+    by : (t : Bool) → length (cond t [] (ascii " ")) ≤ 1
+    by true = omega arith
+    by false = omega arith
+
+blob-length : (v : Value) → length (blob v) ≤ 3 + size v
+unfolding blob size
+blob-length none = omega arith
+blob-length (some v) = omega arith
+
+written-length : (v : Value) → length (written v) ≤ size v
+unfolding written size
+written-length none = omega arith
+written-length (some v) = omega arith
+
+given-size : (p : Bool) (v : List ℕ) → size (given p v) ≤ length v
+unfolding size
+given-size true v = omega arith
+given-size false v = omega arith
+
+added-length : (b : Bool) (k : ℕ) (w : List ℕ) (v : Value) → length (added b k w v) ≤ 4 + length w + size v
+unfolding added
+added-length b k w v =
+    let g = gap-length b k in
+    rw (length-append (gap b k) (cond (eqb k TK-BLOB) (blob v) (w ++ written v)))
+    (by (eqb k TK-BLOB))
+  where
+    by : (t : Bool) → length (gap b k) + length (cond t (blob v) (w ++ written v)) ≤ 4 + length w + size v
+    by true = omega (arith, gap-length b k, blob-length v)
+    by false = omega (arith, gap-length b k, written-length v, length-append w (written v))
+
+-- so a count never stops short of them
+pub news-counted : (b : Bool) (token : ℕ) (value : List ℕ) → length value < 2 ^ 63 → length (adds b (tokenOf token value)) ≤ most
+unfolding adds tokenOf
+news-counted b token value h =
+    let k = numberOf token in
+    omega (arith, added-length b k (spelling k) (given (present token) value), short k, given-size (present token) value)
+
+pub measured : (x : State) (b : Bool) (part : List ℕ) (token : ℕ) (value : List ℕ) → length value < 2 ^ 63 → x ≡ emitted b part token value
+    → x .0 .at ≡ length (adds b (tokenOf token value))
+unfolding emitted mark pour
+measured x b part token value h e =
+    let n = length (adds b (tokenOf token value)) in
+    let l : n ≤ most = news-counted b token value h in
+    ap (λ (s : State). s .0 .at) e ∙ count-fits 0 n (omega arith) ∙ zero-add n
+
+-- ---- 8, or the bytes
+pub no-room : (rec : Stream) (out : List ℕ) (token : ℕ) (value : List ℕ) (n : ℕ) → n ≡ length (news rec token value) → length out - rec .count < n
+    → Writes rec out token value (NoRoom n) rec out
+unfolding room recordAfter outputAfter
+no-room rec out token value n e h =
+    record { answers = rw (← e, lt-ltb (length out - rec .count) n h); leave = refl; writes = refl }
+
+pub added-all : (rec : Stream) (out : List ℕ) (token : ℕ) (value : List ℕ) (n : ℕ) (x : State) → rec .count ≤ length out → n ≡ length (news rec token value)
+    → n ≤ length out - rec .count → x ≡ emitted (rec .spaced) (midOf (rec .count) (length out - rec .count) out) token value
+    → Writes rec out token value (Added n) (record { spaced = x .0 .spaced; count = rec .count + n }) (putMid (rec .count) (length out - rec .count) out (x .1))
+unfolding room recordAfter outputAfter emitted mark pour news
+added-all rec out token value n x c e h p =
+    let new = news rec token value in
+    let at = rec .count in
+    let fits : at + length new ≤ length out = omega arith in
+    let stored : putMid at (length out - at) out (x .1) ≡ sets out at new =
+    rw (ap (λ (s : State). s .1) p) (sets-within out new at fits) in
+    record {
+      answers = rw (← e, le-ltb (length out - at) n h);
+      leave = ap (λ (s : State). record { spaced = s .0 .spaced; count = at + n }) p;
+      writes = rw e (stored ∙ sets-eq new out at fits);
+    }
+
+-- ---- the first fitting refusal, and where there is none
+zero-ne-one : _≡_ {A = ℕ} 0 1 → ⊥
+zero-ne-one z = omega arith
+
+data Each (P : Answer → Type 0) : List (Bool × Answer) → Type 0 where
+  done : Each P []
+  also : {c : Bool × Answer} {cs : List (Bool × Answer)} → P (c .1) → Each P cs → Each P (c ∷ cs)
+
+first-refused : (P : Answer → Type 0) (cs : List (Bool × Answer)) → Each P cs → (a : Answer) → Refused a ≡ first (refusing cs) Fine → P a × ((o : Answer) → a ≡ first cs o)
+first-refused P [] ps a e = let z : _≡_ {A = ℕ} 0 1 = cc in absurd (zero-ne-one z)
+first-refused P ((true, x) ∷ cs) (also p ps) a e = let q : a ≡ x = cc in (rw q p, λ o. q)
+first-refused P ((false, x) ∷ cs) (also p ps) a e = first-refused P cs ps a e
+
+first-fine : (cs : List (Bool × Answer)) → Fine ≡ first (refusing cs) Fine → (o : Answer) → first cs o ≡ o
+first-fine [] e o = refl
+first-fine ((true, x) ∷ cs) e o = let z : _≡_ {A = ℕ} 0 1 = cc in absurd (zero-ne-one z)
+first-fine ((false, x) ∷ cs) e o = first-fine cs e o
+
+abbrev Passed : List (Bool × Answer) → Type 0
+Passed [] = Unit
+Passed (c ∷ cs) = c .0 ≡ false
+
+first-passed : (cs : List (Bool × Answer)) → Fine ≡ first (refusing cs) Fine → Passed cs
+first-passed [] e = tt
+first-passed ((true, x) ∷ cs) e = let z : _≡_ {A = ℕ} 0 1 = cc in absurd (zero-ne-one z)
+first-passed ((false, x) ∷ cs) e = refl
+
+-- a refusal leaves all as it was
+Kept : Stream → List ℕ → ℕ → List ℕ → Answer → Type 0
+Kept rec out token value a = (rec ≡ recordAfter a rec token value) × (out ≡ outputAfter a rec out token value)
+
+keeps : (e : Encoding) (rec : Stream) (out : List ℕ) (token : ℕ) (value : List ℕ) → Each (Kept rec out token value) (before e rec (length out) token value)
+unfolding before Kept recordAfter outputAfter
+keeps e rec out token value = also (refl, refl) (also (refl, refl) (also (refl, refl) (also (refl, refl) (also (refl, refl) done))))
+
+pub refused : (rec : Stream) (out : List ℕ) (token : ℕ) (value : List ℕ) (r : Check) (a : Answer) → Checks rec (length out) token value r → r ≡ Refused a → Appends rec out token value a rec out
+unfolding Kept answerTo
+refused rec out token value r a c e =
+    let k = c .encoding in
+    let f = first-refused (Kept rec out token value) (before k rec (length out) token value) (keeps k rec out token value) a (sym e ∙ c .is) in
+    record { encoding = k; encoded = c .encoded; answers = f .1 (room rec (length out) (length (news rec token value))); leave = f .0 .0; writes = f .0 .1 }
+
+pub fine-room : (rec : Stream) (out : List ℕ) (token : ℕ) (value : List ℕ) (r : Check) → Checks rec (length out) token value r → r ≡ Fine → rec .count ≤ length out
+unfolding before
+fine-room rec out token value r c e =
+    ltb-false (length out) (rec .count) (first-passed (before (c .encoding) rec (length out) token value) (sym e ∙ c .is))
+
+pub accepted : (rec : Stream) (out : List ℕ) (token : ℕ) (value : List ℕ) (r : Check) (a : Answer) (rec′ : Stream) (out′ : List ℕ)
+    → Checks rec (length out) token value r → r ≡ Fine → Writes rec out token value a rec′ out′ → Appends rec out token value a rec′ out′
+unfolding answerTo
+accepted rec out token value r a rec′ out′ c e w =
+    let k = c .encoding in
+    let f = first-fine (before k rec (length out) token value) (sym e ∙ c .is) (room rec (length out) (length (news rec token value))) in
+    record { encoding = k; encoded = c .encoded; answers = w .answers ∙ sym f; leave = w .leave; writes = w .writes }
+
+-- no two outcomes satisfy the contract
+pub unique : (rec : Stream) (out : List ℕ) (token : ℕ) (value : List ℕ) (a b : Answer) (r s : Stream) (o p : List ℕ)
+    → Appends rec out token value a r o → Appends rec out token value b s p → (a ≡ b) × ((r ≡ s) × (o ≡ p))
+unique rec out token value a b r s o p x y =
+    let e : x .encoding ≡ y .encoding = encoded-unique value (x .encoding) (y .encoding) (x .encoded) (y .encoded) in
+    let q : a ≡ b = x .answers ∙ ap (λ (k : Encoding). answerTo k rec out token value) e ∙ sym (y .answers) in (
+      q,
+      (
+        x .leave ∙ ap (λ (t : Answer). recordAfter t rec token value) q ∙ sym (y .leave),
+        x .writes ∙ ap (λ (t : Answer). outputAfter t rec out token value) q ∙ sym (y .writes),
+      ),
+    )
+
+-- a place is far below 2^32, so that number and place can be told apart in one number
+abbrev Small : Answer → Type 0
+Small a = place a < 2 ^ 32
+
+either : (t : Bool) (x y : Answer) → Small x → Small y → Small (cond t x y)
+either true x y p q = p
+either false x y p q = q
+
+encoding-place : (e : Encoding) (value : List ℕ) → length value ≤ longest → Encoded value e → Small (Broken e)
+encoding-place Valid value l h = omega arith
+encoding-place (Bad p) value l h = omega (arith, h .0)
+
+answer-small : (e : Encoding) (rec : Stream) (out : List ℕ) (token : ℕ) (value : List ℕ) → Encoded value e → Small (answerTo e rec out token value)
+unfolding answerTo before room news adds tokenOf
+answer-small e rec out token value h =
+    either (ltb (length out) (rec .count)) _ _ (omega arith)
+    (either (not (known (numberOf token))) _ _ (omega arith)
+    (either (not (present token) && ltb 0 (length value)) _ _ (omega arith) (by (ltb longest (length value)) refl)))
+  where
+    n : ℕ
+    n = length (adds (rec .spaced) (tokenOf token value))
+
+    by : (t : Bool) → ltb longest (length value) ≡ t
+        → Small (cond t TooLong (cond (broken e) (Broken e) (cond (ltb (length out - rec .count) n) (NoRoom n) (Added n))))
+    by true q = omega arith
+    by false q =
+        let l : length value ≤ longest = ltb-false longest (length value) q in
+        let k = numberOf token in
+        let s : n < 2 ^ 32 = omega (arith, added-length (rec .spaced) k (spelling k) (given (present token) value), short k, given-size (present token) value) in
+        either (broken e) _ _ (encoding-place e value l h) (either (ltb (length out - rec .count) n) _ _ s s)
+
+pub place-small : (rec : Stream) (out : List ℕ) (token : ℕ) (value : List ℕ) (a : Answer) (rec′ : Stream) (out′ : List ℕ) → Appends rec out token value a rec′ out′ → place a < 2 ^ 32
+place-small rec out token value a rec′ out′ x = rw (x .answers) (answer-small (x .encoding) rec out token value (x .encoded))

@@ -1,0 +1,36 @@
+-- What the two halves of the by-value core do: the refusals that need no measuring, and the rest.
+use Prim.Native.Nat.{ℕ}
+use mathlib.Core.Path.{_≡_}
+use mathlib.Core.List.{List, [], _∷_}
+use mathlib.Core.Bool.{Bool}
+use lib.ListN.{length}
+use Rattle.utf8.specs.Rfc3629.{Encoded}
+use Rattle.utf8.specs.declared.Encoding.{Encoding}
+use Rattle.append.specs.declared.Stream.{Stream}
+use Rattle.append.specs.declared.Answer.{Answer}
+use Rattle.append.specs.declared.Check.{Check}
+use Rattle.append.specs.declared.Check.the-variants.{Fine, Refused}
+use Rattle.stream.specs.Stream.{adds, leaves}
+use Rattle.stream.specs.Sink.{State, pour, mark}
+use Rattle.append.specs.Append.{first, before, room, news, tokenOf, recordAfter, outputAfter}
+
+abbrev pub refusing : List (Bool × Answer) → List (Bool × Check)
+refusing [] = []
+refusing (c ∷ cs) = (c .0, Refused (c .1)) ∷ refusing cs
+
+-- the first of the refusals 1, 4, 2 that fits
+pub record Checks (rec : Stream) (size token : ℕ) (value : List ℕ) (r : Check) : Type 0 where
+  pub encoding : Encoding
+  pub encoded : Encoded value encoding
+  pub is : r ≡ first (refusing (before encoding rec size token value)) Fine
+
+-- 8, or the bytes
+pub record Writes (rec : Stream) (out : List ℕ) (token : ℕ) (value : List ℕ) (answer : Answer) (rec′ : Stream) (out′ : List ℕ) : Type 0 where
+  pub answers : answer ≡ room rec (length out) (length (news rec token value))
+  pub leave : rec′ ≡ recordAfter answer rec token value
+  pub writes : out′ ≡ outputAfter answer rec out token value
+
+-- the token appended to a sink that begins with the part of the output
+unfoldable pub emitted : Bool → List ℕ → ℕ → List ℕ → State
+emitted b part token value =
+    mark (pour (record { spaced = b; at = 0 }, part) (adds b (tokenOf token value))) (leaves b (tokenOf token value))

@@ -1,0 +1,156 @@
+// Append over the stream record (01, sections 1 and 3): refusals 1, 4, 2, 8 in that order, else the token's bytes.
+//
+// `step` takes the record by value and returns it; `append` is the same over a lent record.
+ghost use mathlib.Core.Path.{_≡_};
+ghost use Prim.Native.Nat.{_≤_};
+ghost use lib.ListN.{length};
+ghost use Rattle.stream.specs.Stream.{adds};
+ghost use Rattle.append.specs.Append.{Appends, numberOf, present as present', tokenOf};
+ghost use Rattle.append.specs.Steps.{Checks, Writes, emitted};
+use spelling::table;
+use stream::Sink;
+use utf8::Encoding;
+
+// Bit 15 of a token word: a value is present. The number is below it.
+const PRESENT: u16 = 0x8000;
+
+// No value is longer.
+const LONGEST: usize = 65536;
+
+// The stream record: the bit, and the bytes written so far.
+pub struct Stream {
+    pub spaced: bool,
+    pub count: usize,
+}
+
+pub enum Answer {
+    // So many bytes were added.
+    Added(usize),
+    // The record's count is past the output's end.
+    Malformed,
+    // No token has the number, or value bytes stand where none is present.
+    Unknown,
+    // The value is over-long.
+    TooLong,
+    // The value is not UTF-8.
+    Broken(Encoding),
+    // There is no room for the so many bytes that the token adds.
+    NoRoom(usize),
+}
+
+// What is known before the bytes are measured.
+pub enum Check {
+    Fine,
+    Refused(Answer),
+}
+
+pub struct Next {
+    pub answer: Answer,
+    pub rec: Stream,
+}
+
+// The token number of a token word.
+fn number_of(token: u16) -> u16
+    ensures { λ r. ⌜ r ≡ numberOf token ⌝ }
+{
+    token % PRESENT
+}
+
+// Whether a token word says that a value is present.
+fn present(token: u16) -> bool
+    ensures { λ r. ⌜ r ≡ present' token ⌝ }
+{
+    PRESENT <= token
+}
+
+// The first fitting one of the refusals 1, 4 and 2, for an output of size bytes.
+fn refusal(rec: Stream, size: usize, token: u16, value: &[u8]) -> Check
+    ensures { λ r. ⌜ Checks rec size token (now (value .entry)) r ⌝ }
+{
+    if size < rec.count {
+        return Check::Refused(Answer::Malformed);
+    }
+    if !spelling::known(number_of(token)) {
+        return Check::Refused(Answer::Unknown);
+    }
+    if !present(token) & (0 < value.len()) {
+        return Check::Refused(Answer::Unknown);
+    }
+    if LONGEST < value.len() {
+        return Check::Refused(Answer::TooLong);
+    }
+    let e = utf8::check(value);
+    if utf8::number(e) != 0 {
+        return Check::Refused(Answer::Broken(e));
+    }
+    Check::Fine
+}
+
+// The token appended to a part of the output, from its first byte on.
+fn emit(spaced: bool, part: &mut [u8], token: u16, value: &[u8]) -> Sink
+    ensures { λ r. ⌜ (r, now (part .exit)) ≡ emitted spaced (now (part .entry)) token (now (value .entry)) ⌝ }
+{
+    let number = number_of(token);
+    let words = table();
+    let word = spelling::of(&words, number);
+    let s = Sink {
+        spaced: spaced,
+        at: 0,
+    };
+    stream::append(s, part, number, word, present(token), value)
+}
+
+// How many bytes the token adds: it is appended to an output with no room.
+fn measure(spaced: bool, token: u16, value: &[u8]) -> usize
+    ensures { λ r. ⌜ r ≡ length (adds spaced (tokenOf token (now (value .entry)))) ⌝ }
+{
+    let mut nothing = [0u8; 0];
+    let s = emit(spaced, &mut nothing, token, value);
+    s.at
+}
+
+// 8, or the bytes behind the record's count.
+fn write(rec: Stream, out: &mut [u8], token: u16, value: &[u8]) -> Next
+    requires { ⌜ rec .count ≤ length (now out) ⌝ }
+    ensures { λ r. ⌜ Writes rec (now (out .entry)) token (now (value .entry)) (r .answer) (r .rec) (now (out .exit)) ⌝ }
+{
+    let count = rec.count;
+    let n = measure(rec.spaced, token, value);
+    if out.len() - count < n {
+        return Next {
+            answer: Answer::NoRoom(n),
+            rec: rec,
+        };
+    }
+    let s = emit(rec.spaced, &mut out[count..], token, value);
+    Next {
+        answer: Answer::Added(n),
+        rec: Stream {
+            spaced: s.spaced,
+            count: count + n,
+        },
+    }
+}
+
+// One token appended: the answer, and the record that is left.
+pub fn step(rec: Stream, out: &mut [u8], token: u16, value: &[u8]) -> Next
+    ensures { λ r. ⌜ Appends rec (now (out .entry)) token (now (value .entry)) (r .answer) (r .rec) (now (out .exit)) ⌝ }
+{
+    let first = refusal(rec, out.len(), token, value);
+    match first {
+        Check::Refused(answer) => Next {
+            answer: answer,
+            rec: rec,
+        },
+        Check::Fine => write(rec, out, token, value),
+    }
+}
+
+// The same over a lent record: it is copied out, and what is left of it stored back.
+pub fn append(rec: &mut Stream, out: &mut [u8], token: u16, value: &[u8]) -> Answer
+    ensures { λ r. ⌜ Appends (now (rec .entry)) (now (out .entry)) token (now (value .entry)) r (now (rec .exit)) (now (out .exit)) ⌝ }
+{
+    let next = step(*rec, out, token, value);
+    *rec = next.rec;
+    next.answer
+}
