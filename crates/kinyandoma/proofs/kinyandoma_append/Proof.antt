@@ -1,0 +1,29 @@
+-- `kinyandoma::kinyandoma_append` meets its contract: a record that is not well formed is refused, and else `step` is called on the record that it packs.
+use mathlib.Core.Path.{_≡_}
+use Rattle.append.specs.Laws.{place-small}
+use Rattle.kinyandoma.specs.Laws.{well-length, not-well, well}
+use borrow.Author.Needs.{needs}
+use Rattle.kinyandoma.proofs.kinyandoma_append.Statement.{statement}
+use Rattle.kinyandoma.proofs.kinyandoma_append.Tie as tie
+
+returns : tie.Need-returns
+returns c = not-well _ _ _ _ _ _ (c .before .before .well-formed .ensures) (c .before .if1 .taken) (c .code .ensures)
+
+unpack-requires : tie.Need-unpack-requires
+unpack-requires c κs = well-length _ _ (c .before .before .well-formed .ensures) (c .before .if1 .left)
+
+repack-requires : tie.Need-repack-requires
+repack-requires c κs = well-length _ _ (c .before .before .before .before .before .before .before .before .before .well-formed .ensures) (c .before .before .before .before .before .before .before .before .if1 .left)
+
+code-requires-2 : tie.Need-code-requires-2
+code-requires-2 c κs = place-small _ _ _ _ _ _ _ (c .before .before .before .before .before .before .before .step .ensures)
+
+returns-2 : tie.Need-returns-2
+returns-2 c = well _ _ _ _ _ _ _ _ _ _ _ (c .before .before .before .before .before .before .before .before .before .before .before .before .before .well-formed .ensures) (c .before .before .before .before .before .before .before .before .before .before .before .before .if1 .left) (c .before .before .before .before .before .before .before .before .before .before .unpack .ensures) (c .before .before .before .before .before .before .before .before .step .ensures) (c .code2 .ensures) (c .before .before .before .repack .ensures)
+
+pub kinyandoma-append-spec : {M : Type 1} → statement M
+kinyandoma-append-spec =
+    tie.close
+    (tie.spec
+    (λ c κs. search needs) (λ c κs. search needs) (λ c. search needs) returns unpack-requires
+    (λ c κs. search needs) repack-requires code-requires-2 (λ c. search needs) (λ c. search needs) returns-2)

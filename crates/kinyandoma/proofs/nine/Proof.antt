@@ -1,0 +1,17 @@
+-- `kinyandoma::nine` meets its contract: byte by byte.
+use Rattle.kinyandoma.specs.Wire.{packed}
+use borrow.Author.Needs.{needs}
+use Rattle.kinyandoma.proofs.nine.Statement.{statement}
+use Rattle.kinyandoma.proofs.nine.Tie as tie
+
+returns : tie.Need-returns
+unfolding packed
+returns c = cc
+
+pub nine-spec : {M : Type 1} → statement M
+nine-spec =
+    tie.close
+    (tie.spec
+    (λ c κs. search needs) (λ c κs. search needs) (λ c κs. search needs) (λ c κs. search needs)
+    (λ c κs. search needs) (λ c κs. search needs) (λ c κs. search needs) (λ c κs. search needs)
+    (λ c κs. search needs) returns)

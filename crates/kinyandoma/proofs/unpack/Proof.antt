@@ -1,0 +1,16 @@
+-- `kinyandoma::unpack` meets its contract: the count is the number of the eight bytes behind the first.
+use Rattle.kinyandoma.specs.Laws.{unpacks}
+use borrow.Author.Needs.{needs}
+use Rattle.kinyandoma.proofs.unpack.Statement.{statement}
+use Rattle.kinyandoma.proofs.unpack.Tie as tie
+
+returns : tie.Need-returns
+returns c = unpacks (c .before .before .before .before .before .before .before .before .before .before .before .before .args .rec .now) _ _ (c .before .before .before .before .before .before .before .before .before .before .before .before .pre) (c .before .before .before .before .before .before .half .ensures .0) (c .before .half2 .ensures .0)
+
+pub unpack-spec : {M : Type 1} → statement M
+unpack-spec =
+    tie.close
+    (tie.spec
+    (λ c. search needs) (λ c. search needs) (λ c. search needs) (λ c. search needs) (λ c κs. search needs)
+    (λ c. search needs) (λ c. search needs) (λ c. search needs) (λ c. search needs) (λ c κs. search needs)
+    (λ c. search needs) (λ c. search needs) (λ c. search needs) returns)
