@@ -1,0 +1,160 @@
+//! One call of kinyandoma_append: what is lent, and what comes of it.
+
+use crate::guarded::Guarded;
+use crate::hex::hex;
+#[cfg(feature = "selftest")]
+use crate::stand_in::kinyandoma_append;
+use std::fmt;
+
+#[cfg(not(feature = "selftest"))]
+extern "C" {
+    fn kinyandoma_append(
+        record: *mut u8,
+        record_len: usize,
+        out: *mut u8,
+        out_len: usize,
+        token: u16,
+        value: *const u8,
+        value_len: usize,
+    ) -> u64;
+}
+
+/// All that a call is given, as it stands before.
+#[derive(Clone, Debug)]
+pub struct Call {
+    pub record: Vec<u8>,
+    pub output: Vec<u8>,
+    pub token: u16,
+    pub value: Vec<u8>,
+}
+
+/// The answer, and what stands in the lent parts afterwards.
+#[derive(Clone, Debug, PartialEq)]
+pub struct Outcome {
+    pub answer: Answer,
+    pub record: Vec<u8>,
+    pub output: Vec<u8>,
+    /// Whether the value and all bytes around the lent parts are as before.
+    pub rest_untouched: bool,
+}
+
+#[derive(Clone, Copy, Debug, PartialEq)]
+pub struct Answer {
+    pub number: u32,
+    pub place: u32,
+}
+
+impl Call {
+    /// What the library makes of it.
+    pub fn observed(&self) -> Outcome {
+        let shift = usize::from(self.token) % 16;
+        let mut record = Guarded::new(&self.record, shift);
+        let mut output = Guarded::new(&self.output, shift / 2);
+        let mut value = Guarded::new(&self.value, 15 - shift);
+        // Sound if the library keeps to the lent parts; the guards tell of small trespasses.
+        let packed = unsafe {
+            kinyandoma_append(
+                record.start(),
+                self.record.len(),
+                output.start(),
+                self.output.len(),
+                self.token,
+                value.start(),
+                self.value.len(),
+            )
+        };
+        let guards_whole = record.guards_whole() && output.guards_whole() && value.guards_whole();
+        Outcome {
+            answer: Answer::unpacked(packed),
+            rest_untouched: guards_whole && value.inner() == self.value,
+            record: record.inner().to_vec(),
+            output: output.inner().to_vec(),
+        }
+    }
+
+    /// Refused: nothing changes.
+    pub fn refused(&self, number: u32, place: usize) -> Outcome {
+        Outcome {
+            answer: Answer {
+                number,
+                place: place as u32,
+            },
+            record: self.record.clone(),
+            output: self.output.clone(),
+            rest_untouched: true,
+        }
+    }
+
+    /// Done: the bytes stand at the count, and the record follows.
+    pub fn done(&self, added: &[u8], spaced: bool) -> Outcome {
+        let count = self.count() as usize;
+        let end = count + added.len();
+        let mut output = self.output.clone();
+        output[count..end].copy_from_slice(added);
+        Outcome {
+            answer: Answer {
+                number: 0,
+                place: added.len() as u32,
+            },
+            record: record(spaced, end as u64),
+            output,
+            rest_untouched: true,
+        }
+    }
+
+    /// The record's count; the record must be 9 bytes.
+    pub fn count(&self) -> u64 {
+        u64::from_le_bytes(self.record[1..9].try_into().expect("a record of 9 bytes"))
+    }
+}
+
+impl Answer {
+    fn unpacked(packed: u64) -> Answer {
+        Answer {
+            number: (packed >> 32) as u32,
+            place: packed as u32,
+        }
+    }
+}
+
+/// The 9 bytes of a record.
+pub fn record(spaced: bool, count: u64) -> Vec<u8> {
+    let mut bytes = vec![u8::from(spaced)];
+    bytes.extend(count.to_le_bytes());
+    bytes
+}
+
+impl fmt::Display for Call {
+    fn fmt(&self, f: &mut fmt::Formatter<'_>) -> fmt::Result {
+        let (number, bit) = (self.token & 0x7FFF, self.token >> 15);
+        writeln!(f, "  token    {number}, bit 15 {bit}")?;
+        writeln!(f, "  value    {}", hex(&self.value))?;
+        writeln!(f, "  record   {}", hex(&self.record))?;
+        write!(f, "  output   {}", hex(&self.output))
+    }
+}
+
+impl Outcome {
+    /// For a reader who has the call too: of the output only what changed.
+    pub fn told_after(&self, call: &Call) -> String {
+        let Answer { number, place } = self.answer;
+        let rest = if self.rest_untouched {
+            "untouched"
+        } else {
+            "CHANGED"
+        };
+        let record = hex(&self.record);
+        let output = change(&call.output, &self.output);
+        format!("  answer   {number}, place {place}\n  record   {record}\n  output   {output}\n  the rest {rest}")
+    }
+}
+
+fn change(before: &[u8], after: &[u8]) -> String {
+    let differs = |place: &usize| before[*place] != after[*place];
+    let first = (0..before.len()).find(differs);
+    let last = (0..before.len()).rev().find(differs);
+    match (first, last) {
+        (Some(first), Some(last)) => format!("from byte {first} on {}", hex(&after[first..=last])),
+        _ => "as before".to_string(),
+    }
+}

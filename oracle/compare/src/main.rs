@@ -1,0 +1,84 @@
+//! Compares kinyandoma_append with the crate and with the rules of its refusals.
+
+mod call;
+#[cfg(feature = "selftest")]
+mod faults;
+mod guarded;
+mod hex;
+mod refusals;
+mod report;
+mod rules;
+#[cfg(feature = "selftest")]
+mod stand_in;
+mod streams;
+
+use report::{Counts, Difference};
+use std::{env, process};
+use tokens::random::Random;
+
+const USAGE: &str = "usage: compare [TOKENS [REFUSED-CALLS [SEED]]]";
+const DEFAULT_CALLS: u64 = 1_000_000;
+const DEFAULT_SEED: u64 = 1;
+
+/// How much to try.
+pub struct Extent {
+    tokens: u64,
+    refused: u64,
+    seed: u64,
+}
+
+fn main() {
+    let words: Vec<String> = env::args().skip(1).collect();
+    #[cfg(feature = "selftest")]
+    try_faults(&words);
+    let extent = extent(&words).unwrap_or_else(|| {
+        eprintln!("{USAGE}");
+        process::exit(2);
+    });
+    match compare_all(&extent, true) {
+        Ok(()) => println!("0 differences"),
+        Err(difference) => {
+            println!("{difference}");
+            process::exit(1);
+        }
+    }
+}
+
+/// `faults` tries every planted fault, `faults whole` tells each difference whole.
+#[cfg(feature = "selftest")]
+fn try_faults(words: &[String]) {
+    if words.first().is_some_and(|word| word == "faults") {
+        let all_found = faults::try_all(words.len() > 1);
+        process::exit(if all_found { 0 } else { 1 });
+    }
+}
+
+fn extent(words: &[String]) -> Option<Extent> {
+    let number = |place: usize, default: u64| match words.get(place) {
+        Some(word) => word.parse().ok(),
+        None => Some(default),
+    };
+    if words.len() > 3 {
+        return None;
+    }
+    Some(Extent {
+        tokens: number(0, DEFAULT_CALLS)?,
+        refused: number(1, DEFAULT_CALLS)?,
+        seed: number(2, DEFAULT_SEED)?,
+    })
+}
+
+pub fn compare_all(extent: &Extent, print: bool) -> Result<(), Box<Difference>> {
+    let mut random = Random::new(extent.seed);
+    let mut appended = Counts::default();
+    streams::compare(extent.tokens, &mut random, &mut appended)?;
+    if print {
+        println!("tokens of streams: {}\n{appended}", appended.total());
+    }
+    let mut refused = Counts::default();
+    refusals::compare(extent.refused, &mut random, &mut refused)?;
+    if print {
+        println!("refused and damaged calls: {}\n{refused}", refused.total());
+    }
+    Ok(())
+}

@@ -1,0 +1,62 @@
+//! Counts of answers, and the first difference.
+
+use crate::call::{Call, Outcome};
+use std::fmt;
+
+/// How often each answer number came.
+#[derive(Default)]
+pub struct Counts {
+    by_number: [u64; 9],
+}
+
+/// A call that the library settles otherwise than expected.
+pub struct Difference {
+    part: &'static str,
+    call: Call,
+    expected: Outcome,
+    observed: Outcome,
+}
+
+impl Counts {
+    pub fn total(&self) -> u64 {
+        self.by_number.iter().sum()
+    }
+
+    /// Runs the call, and counts it if it comes out as expected.
+    pub fn check(
+        &mut self,
+        part: &'static str,
+        call: &Call,
+        expected: Outcome,
+    ) -> Result<Outcome, Box<Difference>> {
+        let observed = call.observed();
+        if observed != expected {
+            return Err(Box::new(Difference {
+                part,
+                call: call.clone(),
+                expected,
+                observed,
+            }));
+        }
+        self.by_number[observed.answer.number as usize] += 1;
+        Ok(observed)
+    }
+}
+
+impl fmt::Display for Counts {
+    fn fmt(&self, f: &mut fmt::Formatter<'_>) -> fmt::Result {
+        for number in [0, 1, 2, 4, 8] {
+            write!(f, "  answer {number}: {}", self.by_number[number])?;
+        }
+        Ok(())
+    }
+}
+
+impl fmt::Display for Difference {
+    fn fmt(&self, f: &mut fmt::Formatter<'_>) -> fmt::Result {
+        writeln!(f, "difference in {}", self.part)?;
+        writeln!(f, "call\n{}", self.call)?;
+        writeln!(f, "expected\n{}", self.expected.told_after(&self.call))?;
+        write!(f, "observed\n{}", self.observed.told_after(&self.call))
+    }
+}

@@ -1,0 +1,58 @@
+//! What each call has to answer, read from the document: 1, then 4, then 2, then 8.
+
+use crate::call::{Call, Outcome};
+use tokens::judge::{step, Step};
+use tokens::token::{kind_of, Token, VALUE_PRESENT};
+
+pub const LONGEST_VALUE: usize = 65_536;
+
+pub fn expected(call: &Call) -> Outcome {
+    if !record_is_well_formed(call) {
+        return call.refused(1, 0);
+    }
+    if !token_is_known(call) {
+        return call.refused(4, 0);
+    }
+    match value_of(call) {
+        Err(place) => call.refused(2, place),
+        Ok(value) => appended(call, value),
+    }
+}
+
+fn record_is_well_formed(call: &Call) -> bool {
+    call.record.len() == 9 && call.record[0] <= 1 && call.count() <= call.output.len() as u64
+}
+
+fn token_is_known(call: &Call) -> bool {
+    kind_of(number(call)).is_some() && (value_is_present(call) || call.value.is_empty())
+}
+
+fn number(call: &Call) -> u16 {
+    call.token & !VALUE_PRESENT
+}
+
+fn value_is_present(call: &Call) -> bool {
+    call.token & VALUE_PRESENT != 0
+}
+
+/// The value as text, or the place of refusal 2.
+fn value_of(call: &Call) -> Result<Option<String>, usize> {
+    if call.value.len() > LONGEST_VALUE {
+        return Err(LONGEST_VALUE);
+    }
+    let text = std::str::from_utf8(&call.value).map_err(|error| error.valid_up_to())?;
+    Ok(value_is_present(call).then(|| text.to_string()))
+}
+
+fn appended(call: &Call, value: Option<String>) -> Outcome {
+    let token = Token {
+        number: number(call),
+        value,
+    };
+    let Step { added, spaced } = step(call.record[0] == 1, &token);
+    let room = call.output.len() - call.count() as usize;
+    if added.len() > room {
+        return call.refused(8, added.len());
+    }
+    call.done(&added, spaced)
+}

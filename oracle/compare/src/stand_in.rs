@@ -1,0 +1,163 @@
+//! A small kinyandoma_append in Rust, with faults that can be planted in it.
+
+use crate::faults::{planted, Fault};
+use std::slice::{from_raw_parts, from_raw_parts_mut};
+use tokens::token::kind_of;
+
+const COMMA: u16 = 25;
+const SEMI: u16 = 1;
+const LP: u16 = 22;
+const RP: u16 = 23;
+const DOT: u16 = 142;
+const BLOB: u16 = 154;
+const LBRACKET: u16 = 189;
+const RBRACKET: u16 = 190;
+
+/// # Safety
+/// The three parts must be valid for their lengths.
+pub unsafe extern "C" fn kinyandoma_append(
+    record: *mut u8,
+    record_len: usize,
+    out: *mut u8,
+    out_len: usize,
+    token: u16,
+    value: *const u8,
+    value_len: usize,
+) -> u64 {
+    let record = from_raw_parts_mut(record, record_len);
+    let value = from_raw_parts(value, value_len);
+    // One byte more is lent than the caller said, for the fault that writes it.
+    let out = from_raw_parts_mut(out, out_len + 1);
+    let (number, place) = append(record, out, out_len, token, value);
+    (u64::from(number) << 32) + place as u64
+}
+
+fn append(
+    record: &mut [u8],
+    out: &mut [u8],
+    out_len: usize,
+    token: u16,
+    value: &[u8],
+) -> (u32, usize) {
+    let Some((spaced, count)) = unpacked(record, out_len) else {
+        return (1, 0);
+    };
+    let number = token & 0x7FFF;
+    let present = token >> 15 == 1;
+    if planted(Fault::ValueBeforeToken) && std::str::from_utf8(value).is_err() {
+        return (2, bad_place(value).unwrap_or(0));
+    }
+    let stray_value = !present && !value.is_empty() && !planted(Fault::ValueWithoutBit);
+    if !known(number) || stray_value {
+        return (4, 0);
+    }
+    if let Some(place) = bad_place(value) {
+        return (2, place);
+    }
+    let (added, now_spaced) = written(spaced, number, present.then_some(value));
+    let room = out_len - count;
+    let fits = if planted(Fault::ExactRoomRefused) {
+        added.len() < room
+    } else {
+        added.len() <= room
+    };
+    if !fits {
+        spoil_refused(record, &mut out[..out_len]);
+        return (8, added.len());
+    }
+    out[count..count + added.len()].copy_from_slice(&added);
+    if planted(Fault::OneByteMore) {
+        out[count + added.len()] = 0;
+    }
+    record[0] = u8::from(now_spaced);
+    record[1..9].copy_from_slice(&((count + added.len()) as u64).to_le_bytes());
+    (0, added.len())
+}
+
+fn unpacked(record: &[u8], out_len: usize) -> Option<(bool, usize)> {
+    let length_is_good = record.len() == 9 || planted(Fault::LongerRecord) && record.len() > 9;
+    if !length_is_good || record[0] > 1 && !planted(Fault::AnyFirstByte) {
+        return None;
+    }
+    let mut count = u64::from_le_bytes(record[1..9].try_into().unwrap());
+    if planted(Fault::ShortCount) {
+        count &= 0xFFFF_FFFF;
+    }
+    (count <= out_len as u64).then_some((record[0] == 1, count as usize))
+}
+
+fn known(number: u16) -> bool {
+    kind_of(number).is_some() || planted(Fault::OneMoreToken) && number == 169
+}
+
+fn spelling(number: u16) -> &'static [u8] {
+    kind_of(number)
+        .and_then(|kind| kind.as_str())
+        .unwrap_or("")
+        .as_bytes()
+}
+
+fn spoil_refused(record: &mut [u8], out: &mut [u8]) {
+    if planted(Fault::RefusalMarksRecord) {
+        record[0] = 1;
+    }
+    if planted(Fault::RefusalWrites) {
+        out.iter_mut().rev().take(1).for_each(|byte| *byte = b' ');
+    }
+}
+
+fn bad_place(value: &[u8]) -> Option<usize> {
+    let longest = if planted(Fault::LongerValue) {
+        65_537
+    } else {
+        65_536
+    };
+    if value.len() > longest {
+        return Some(65_536);
+    }
+    let place = std::str::from_utf8(value).err()?.valid_up_to();
+    if planted(Fault::SurrogateTaken) && value[place] == 0xED && value.len() == place + 3 {
+        return None;
+    }
+    Some(if planted(Fault::PlaceOneLater) {
+        place + 1
+    } else {
+        place
+    })
+}
+
+fn written(spaced: bool, number: u16, value: Option<&[u8]>) -> (Vec<u8>, bool) {
+    let mut bytes = Vec::new();
+    let mut spaced = spaced;
+    if !spaced && !tight(number) {
+        bytes.push(b' ');
+        spaced = !planted(Fault::SpaceLeavesBit);
+    }
+    if number == BLOB {
+        bytes.extend(value.unwrap_or(b"X''"));
+        let bit = spaced && !planted(Fault::BlobClearsBit);
+        return (bytes, bit);
+    }
+    if !spelling(number).is_empty() {
+        bytes.extend(spelling(number));
+        spaced = matches!(number, LP | DOT | LBRACKET);
+    }
+    if let Some(value) = value {
+        bytes.extend(value);
+        let empty_counts = !planted(Fault::EmptyIsNotBlank) || !value.is_empty();
+        spaced = empty_counts && value.iter().all(|&byte| blank(byte));
+    }
+    (bytes, spaced)
+}
+
+fn tight(number: u16) -> bool {
+    match number {
+        LBRACKET => !planted(Fault::SpaceBeforeBracket),
+        COMMA | SEMI | RP | DOT | RBRACKET => true,
+        _ => false,
+    }
+}
+
+fn blank(byte: u8) -> bool {
+    matches!(byte, 9 | 10 | 12 | 13 | 32) || planted(Fault::VerticalTabIsBlank) && byte == 11
+}

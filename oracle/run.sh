@@ -1,0 +1,77 @@
+#!/usr/bin/env bash
+# Builds the oracle, holds the stored files to it, and compares the library with the crate.
+# `run.sh --store` writes the stored files instead, and ends.
+set -euo pipefail
+
+# Stored files, from the repository's root.
+SPELLINGS=crates/spellings/stdout
+CASES=crates/replay/stdin
+EXPECTED=crates/replay/stdout
+
+# Extent of the comparison.
+TOKENS=${TOKENS:-2000000}
+REFUSED=${REFUSED:-2000000}
+SEED=${SEED:-1}
+
+oracle=$(cd "$(dirname "${BASH_SOURCE[0]}")" && pwd)
+cd "$oracle/.."
+export TURSO_SRC=${TURSO_SRC:-../shared/docs/src}
+programs=$oracle/target/release
+made=$oracle/target/made
+
+build() {
+    cargo build --quiet --offline --locked --release \
+        --manifest-path "$oracle/Cargo.toml" --target-dir "$oracle/target" "$@"
+}
+
+check_sources() {
+    if [ ! -f "$TURSO_SRC/src/token.rs" ]; then
+        echo "no sources in $TURSO_SRC: set TURSO_SRC to the folder of turso_parser 0.8.3 that holds src/" >&2
+        exit 1
+    fi
+    (cd "$TURSO_SRC" && sha256sum --check --quiet "$oracle/sources.sha256")
+}
+
+make_files() {
+    mkdir -p "$made"
+    "$programs/tokens" spellings --bare > "$made/spellings"
+    "$programs/tokens" cases "$made/cases" "$made/expected"
+}
+
+store() {
+    mkdir -p "$(dirname "$2")"
+    cp "$made/$1" "$2"
+    echo "stored: $2"
+}
+
+hold() {
+    if ! cmp "$made/$1" "$2"; then
+        echo "$2 is not what the oracle writes now (oracle/run.sh --store writes it anew)" >&2
+        exit 1
+    fi
+    echo "as stored: $2"
+}
+
+for_each_file() {
+    "$1" spellings "$SPELLINGS"
+    "$1" cases "$CASES"
+    "$1" expected "$EXPECTED"
+}
+
+check_sources
+build
+make_files
+if [ "${1:-}" = --store ]; then
+    for_each_file store
+    exit
+fi
+for_each_file hold
+
+echo "the comparer against planted faults:"
+build --package compare --features compare/selftest
+"$programs/compare" faults
+
+echo "the library against the crate:"
+rt staticlib kinyandoma
+KINYANDOMA_LIB=target/staticlib build --package compare
+"$programs/compare" "$TOKENS" "$REFUSED" "$SEED"

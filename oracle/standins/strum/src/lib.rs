@@ -1,0 +1,3 @@
+//! Stand-in: the one derive that the sources name through this crate.
+
+pub use strum_macros::Display;

@@ -1,0 +1,8 @@
+//! What the crate does with tokens: its spellings, what its stream writes, and lists to try.
+
+pub mod cases;
+pub mod judge;
+pub mod random;
+pub mod spellings;
+pub mod token;
+pub mod values;
