@@ -2,7 +2,7 @@
 use Prim.Native.Nat.{ℕ, _+_, _-_, _*_, _%_, _^_}
 use mathlib.Core.Path.{_≡_}
 use mathlib.Core.List.{List, [], _∷_, _++_}
-use mathlib.Core.Bool.{Bool, true, false, not, cond, _&&_}
+use mathlib.Core.Bool.{Bool, not, cond, _&&_}
 use lib.Dec.{leb, ltb, eqb}
 use lib.ListN.{length, take, drop}
 use Rattle.utf8.specs.Rfc3629 as utf8

@@ -4,18 +4,17 @@ use native.Mathlib.Omega.{arith}
 use mathlib.Core.Path.{_≡_, refl, _∙_, ap, sym}
 use mathlib.Core.List.{List, [], _∷_, _++_}
 use mathlib.Core.Bool.{Bool, true, false, not, cond, _&&_, _||_}
-use lib.Dec.{ltb, leb, eqb}
-use lib.ListN.{length, take, drop, length-append}
+use lib.Dec.{ltb, eqb}
+use lib.ListN.{length, length-append}
 use lib.Seq.{sets, sets-eq}
 use borrow.Rule.Slice.PartMut.{midOf, putMid}
-use native.Mathlib.Nat.{zero-add, suc-ne-zero}
-use borrow.Author.Tests.{lt-ltb, le-ltb, lt-leb, le-leb, ltb-false, eq-eqb, ne-eqb}
+use native.Mathlib.Nat.{zero-add}
+use borrow.Author.Tests.{lt-ltb, le-ltb, ltb-false, eq-eqb, ne-eqb}
 use Rattle.utf8.specs.Rfc3629 as utf8
 use Rattle.utf8.specs.Rfc3629.{Encoded}
-use Rattle.utf8.specs.Laws.{encoded-unique}
+use Rattle.utf8.specs.Laws.{encoded-unique, place-within}
 use Rattle.utf8.specs.Decided.{decided}
 use Rattle.utf8.specs.declared.Encoding.{Encoding}
-use Rattle.utf8.specs.declared.Encoding.the-variants.{Valid, Bad}
 use Rattle.spelling.specs.Spelling.{known, spelling}
 use Rattle.spelling.specs.Table.{bytes, spellingIn}
 use Rattle.spelling.specs.Token.{TK-BLOB}
@@ -31,7 +30,7 @@ use Rattle.append.specs.declared.Answer.the-variants.{Added, Malformed, 
 use Rattle.append.specs.declared.Check.{Check}
 use Rattle.append.specs.declared.Check.the-variants.{Fine, Refused}
 use Rattle.append.specs.Append.{Appends, numberOf, present, tokenOf, news, longest, broken, first, before, room, answerTo, recordAfter, outputAfter, place}
-use Rattle.append.specs.Steps.{refusing, Checks, Writes, emitted}
+use Rattle.append.specs.Steps.{refusing, Checks, Writes, emitted, counted}
 
 -- ---- the refusals 1, 4, 2: each return is the first condition that holds
 module _ (rec : Stream) (size token : ℕ) (value : List ℕ) where
@@ -67,12 +66,14 @@ module _ (rec : Stream) (size token : ℕ) (value : List ℕ) where
           fine h = record { encoding = e; encoded = en; is = rw (le-ltb size (rec .count) c, ← is-known, kn, ← is-present, st, le-ltb longest (length value) l, ← is, eq-eqb m 0 h) }
 
 -- ---- the bytes
-pub emit-step : (x : State) (b p : Bool) (part value table word : List ℕ) (token k : ℕ) → k ≡ numberOf token → p ≡ present token → table ≡ bytes → word ≡ spellingIn table k
-    → x ≡ step (record { spaced = b; at = 0 }, part) k word (given p value) → x ≡ emitted b part token value
-unfolding emitted step adds leaves tokenOf
-emit-step x b p part value table word token k ek ep t w e =
-    let q : word ≡ spelling k = w ∙ ap (λ (l : List ℕ). spellingIn l k) t ∙ spells k in
-    rw (q, ek, ep) at e
+pub emits : (x : State) (b p : Bool) (part value word : List ℕ) (token k : ℕ) → k ≡ numberOf token → p ≡ present token
+    → x ≡ step (record { spaced = b; at = 0 }, part) k word (given p value) → x ≡ emitted b part token word value
+unfolding emitted
+emits x b p part value word token k ek ep e = rw (ek, ep) at e
+
+-- the table that is made is the spelling table
+pub word-is : (table word : List ℕ) (token k : ℕ) → table ≡ bytes → k ≡ numberOf token → word ≡ spellingIn table k → word ≡ spelling (numberOf token)
+word-is table word token k t e w = rw (t, e) at w ∙ spells (numberOf token)
 
 -- ---- how many they are
 size : Value → ℕ
@@ -120,13 +121,18 @@ news-counted b token value h =
     let k = numberOf token in
     omega (arith, added-length b k (spelling k) (given (present token) value), short k, given-size (present token) value)
 
-pub measured : (x : State) (b : Bool) (part : List ℕ) (token : ℕ) (value : List ℕ) → length value < 2 ^ 63 → x ≡ emitted b part token value
-    → x .0 .at ≡ length (adds b (tokenOf token value))
-unfolding emitted mark pour
-measured x b part token value h e =
-    let n = length (adds b (tokenOf token value)) in
-    let l : n ≤ most = news-counted b token value h in
-    ap (λ (s : State). s .0 .at) e ∙ count-fits 0 n (omega arith) ∙ zero-add n
+pub counts : (x : State) (b : Bool) (token : ℕ) (word value : List ℕ) → x ≡ emitted b [] token word value → x .0 .at ≡ counted b token word value
+unfolding counted
+counts x b token word value e = ap (λ (s : State). s .0 .at) e
+
+pub measured : (b : Bool) (token : ℕ) (word value : List ℕ) (n : ℕ) → length value < 2 ^ 63 → word ≡ spelling (numberOf token) → n ≡ counted b token word value
+    → n ≡ length (adds b (tokenOf token value))
+unfolding counted emitted step mark pour adds tokenOf
+measured b token word value n h w e =
+    let k = numberOf token in
+    let m = length (added b k (spelling k) (given (present token) value)) in
+    let l : m ≤ most = news-counted b token value h in
+    (rw w at e) ∙ count-fits 0 m (omega arith) ∙ zero-add m
 
 -- ---- 8, or the bytes
 pub no-room : (rec : Stream) (out : List ℕ) (token : ℕ) (value : List ℕ) (n : ℕ) → n ≡ length (news rec token value) → length out - rec .count < n
@@ -135,11 +141,12 @@ unfolding room recordAfter outputAfter
 no-room rec out token value n e h =
     record { answers = rw (← e, lt-ltb (length out - rec .count) n h); leave = refl; writes = refl }
 
-pub added-all : (rec : Stream) (out : List ℕ) (token : ℕ) (value : List ℕ) (n : ℕ) (x : State) → rec .count ≤ length out → n ≡ length (news rec token value)
-    → n ≤ length out - rec .count → x ≡ emitted (rec .spaced) (midOf (rec .count) (length out - rec .count) out) token value
+pub added-all : (rec : Stream) (out : List ℕ) (token : ℕ) (word value : List ℕ) (n : ℕ) (x : State) → rec .count ≤ length out → word ≡ spelling (numberOf token)
+    → n ≡ length (news rec token value) → n ≤ length out - rec .count → x ≡ emitted (rec .spaced) (midOf (rec .count) (length out - rec .count) out) token word value
     → Writes rec out token value (Added n) (record { spaced = x .0 .spaced; count = rec .count + n }) (putMid (rec .count) (length out - rec .count) out (x .1))
-unfolding room recordAfter outputAfter emitted mark pour news
-added-all rec out token value n x c e h p =
+unfolding room recordAfter outputAfter emitted step mark pour news adds leaves tokenOf
+added-all rec out token word value n x c w e h q =
+    let p = rw w at q in
     let new = news rec token value in
     let at = rec .count in
     let fits : at + length new ≤ length out = omega arith in
@@ -227,10 +234,6 @@ either : (t : Bool) (x y : Answer) → Small x → Small y → Small (cond t x y
 either true x y p q = p
 either false x y p q = q
 
-encoding-place : (e : Encoding) (value : List ℕ) → length value ≤ longest → Encoded value e → Small (Broken e)
-encoding-place Valid value l h = omega arith
-encoding-place (Bad p) value l h = omega (arith, h .0)
-
 answer-small : (e : Encoding) (rec : Stream) (out : List ℕ) (token : ℕ) (value : List ℕ) → Encoded value e → Small (answerTo e rec out token value)
 unfolding answerTo before room news adds tokenOf
 answer-small e rec out token value h =
@@ -248,7 +251,7 @@ answer-small e rec out token value h =
         let l : length value ≤ longest = ltb-false longest (length value) q in
         let k = numberOf token in
         let s : n < 2 ^ 32 = omega (arith, added-length (rec .spaced) k (spelling k) (given (present token) value), short k, given-size (present token) value) in
-        either (broken e) _ _ (encoding-place e value l h) (either (ltb (length out - rec .count) n) _ _ s s)
+        either (broken e) _ _ (omega (arith, place-within value e h)) (either (ltb (length out - rec .count) n) _ _ s s)
 
 pub place-small : (rec : Stream) (out : List ℕ) (token : ℕ) (value : List ℕ) (a : Answer) (rec′ : Stream) (out′ : List ℕ) → Appends rec out token value a rec′ out′ → place a < 2 ^ 32
 place-small rec out token value a rec′ out′ x = rw (x .answers) (answer-small (x .encoding) rec out token value (x .encoded))

@@ -10,9 +10,8 @@ use Rattle.append.specs.declared.Stream.{Stream}
 use Rattle.append.specs.declared.Answer.{Answer}
 use Rattle.append.specs.declared.Check.{Check}
 use Rattle.append.specs.declared.Check.the-variants.{Fine, Refused}
-use Rattle.stream.specs.Stream.{adds, leaves}
-use Rattle.stream.specs.Sink.{State, pour, mark}
-use Rattle.append.specs.Append.{first, before, room, news, tokenOf, recordAfter, outputAfter}
+use Rattle.stream.specs.Sink.{State, step, given}
+use Rattle.append.specs.Append.{first, before, room, news, numberOf, present, recordAfter, outputAfter}
 
 abbrev pub refusing : List (Bool × Answer) → List (Bool × Check)
 refusing [] = []
@@ -30,7 +29,10 @@ pub record Writes (rec : Stream) (out : List ℕ) (token : ℕ) (value : List �
   pub leave : rec′ ≡ recordAfter answer rec token value
   pub writes : out′ ≡ outputAfter answer rec out token value
 
--- the token appended to a sink that begins with the part of the output
-unfoldable pub emitted : Bool → List ℕ → ℕ → List ℕ → State
-emitted b part token value =
-    mark (pour (record { spaced = b; at = 0 }, part) (adds b (tokenOf token value))) (leaves b (tokenOf token value))
+-- the token, whose kind is spelled as w, appended to a sink that begins with the part of the output, and the count that it leaves
+unfoldable pub emitted : Bool → List ℕ → ℕ → List ℕ → List ℕ → State
+emitted b part token w value =
+    step (record { spaced = b; at = 0 }, part) (numberOf token) w (given (present token) value)
+
+unfoldable pub counted : Bool → ℕ → List ℕ → List ℕ → ℕ
+counted b token w value = emitted b [] token w value .0 .at

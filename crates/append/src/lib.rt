@@ -4,9 +4,8 @@
 ghost use mathlib.Core.Path.{_≡_};
 ghost use Prim.Native.Nat.{_≤_};
 ghost use lib.ListN.{length};
-ghost use Rattle.stream.specs.Stream.{adds};
-ghost use Rattle.append.specs.Append.{Appends, numberOf, present as present', tokenOf};
-ghost use Rattle.append.specs.Steps.{Checks, Writes, emitted};
+ghost use Rattle.append.specs.Append.{Appends, numberOf, present as present'};
+ghost use Rattle.append.specs.Steps.{Checks, Writes, emitted, counted};
 use spelling::table;
 use stream::Sink;
 use utf8::Encoding;
@@ -86,26 +85,20 @@ fn refusal(rec: Stream, size: usize, token: u16, value: &[u8]) -> Check
     Check::Fine
 }
 
-// The token appended to a part of the output, from its first byte on.
-fn emit(spaced: bool, part: &mut [u8], token: u16, value: &[u8]) -> Sink
-    ensures { λ r. ⌜ (r, now (part .exit)) ≡ emitted spaced (now (part .entry)) token (now (value .entry)) ⌝ }
+// The token, whose kind is spelled as word, appended to a part of the output, from its first byte on.
+fn emit(spaced: bool, part: &mut [u8], token: u16, word: &[u8], value: &[u8]) -> Sink
+    ensures { λ r. ⌜ (r, now (part .exit)) ≡ emitted spaced (now (part .entry)) token (now (word .entry)) (now (value .entry)) ⌝ }
 {
-    let number = number_of(token);
-    let words = table();
-    let word = spelling::of(&words, number);
-    let s = Sink {
-        spaced: spaced,
-        at: 0,
-    };
-    stream::append(s, part, number, word, present(token), value)
+    let s = Sink { spaced, at: 0 };
+    stream::append(s, part, number_of(token), word, present(token), value)
 }
 
 // How many bytes the token adds: it is appended to an output with no room.
-fn measure(spaced: bool, token: u16, value: &[u8]) -> usize
-    ensures { λ r. ⌜ r ≡ length (adds spaced (tokenOf token (now (value .entry)))) ⌝ }
+fn measure(spaced: bool, token: u16, word: &[u8], value: &[u8]) -> usize
+    ensures { λ r. ⌜ r ≡ counted spaced token (now (word .entry)) (now (value .entry)) ⌝ }
 {
     let mut nothing = [0u8; 0];
-    let s = emit(spaced, &mut nothing, token, value);
+    let s = emit(spaced, &mut nothing, token, word, value);
     s.at
 }
 
@@ -114,15 +107,17 @@ fn write(rec: Stream, out: &mut [u8], token: u16, value: &[u8]) -> Next
     requires { ⌜ rec .count ≤ length (now out) ⌝ }
     ensures { λ r. ⌜ Writes rec (now (out .entry)) token (now (value .entry)) (r .answer) (r .rec) (now (out .exit)) ⌝ }
 {
+    let words = table();
+    let word = spelling::of(&words, number_of(token));
     let count = rec.count;
-    let n = measure(rec.spaced, token, value);
+    let n = measure(rec.spaced, token, word, value);
     if out.len() - count < n {
         return Next {
             answer: Answer::NoRoom(n),
-            rec: rec,
+            rec,
         };
     }
-    let s = emit(rec.spaced, &mut out[count..], token, value);
+    let s = emit(rec.spaced, &mut out[count..], token, word, value);
     Next {
         answer: Answer::Added(n),
         rec: Stream {
@@ -138,10 +133,7 @@ pub fn step(rec: Stream, out: &mut [u8], token: u16, value: &[u8]) -> Next
 {
     let first = refusal(rec, out.len(), token, value);
     match first {
-        Check::Refused(answer) => Next {
-            answer: answer,
-            rec: rec,
-        },
+        Check::Refused(answer) => Next { answer, rec },
         Check::Fine => write(rec, out, token, value),
     }
 }

@@ -1,13 +1,12 @@
 -- One turn of the loop over a value's bytes, and its ends.
 use Prim.Native.Nat.{ℕ, _+_, _≤_, _<_}
-use mathlib.Core.Path.{_≡_, refl, sym}
-use mathlib.Core.List.{List, [], _∷_}
+use mathlib.Core.Path.{_≡_}
+use mathlib.Core.List.{List}
 use mathlib.Core.Bool.{Bool, true, false, not, _&&_}
 use lib.ListN.{length, getD, drop, drop-of-length-le}
 use lib.Seq.{drop-cons}
 use native.Mathlib.Numerals.{add-one}
 use borrow.Author.Tests.{not-true, not-false}
-use Rattle.laws.specs.Among.{all}
 use Rattle.blank.specs.Blank.{blank, allBlank}
 
 next : (v : List ℕ) (i : ℕ) → i < length v → allBlank (drop i v) ≡ blank (getD v i 0) && allBlank (drop (i + 1) v)

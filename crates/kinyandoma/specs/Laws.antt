@@ -1,35 +1,29 @@
 -- Laws of the calls across the boundary.
-use Prim.Native.Nat.{ℕ, _+_, _*_, _/_, _%_, _^_, _≤_, _<_}
+use Prim.Native.Nat.{ℕ, _+_, _*_, _<_}
 use native.Mathlib.Omega.{arith}
 use mathlib.Core.Path.{_≡_, refl, _∙_, ap, sym}
-use mathlib.Core.List.{List, [], _∷_, _++_, append-nil}
-use mathlib.Core.Bool.{Bool, true, false, not, _&&_}
+use mathlib.Core.List.{List, _++_, append-nil}
+use mathlib.Core.Bool.{Bool, true, false, not}
 use borrow.Author.Tests.{eqb-true, not-true, not-false}
 use Rattle.laws.specs.Tests.{and-left}
 use Rattle.append.specs.Laws as append
 use lib.Dec.{leb, eqb}
 use lib.ListN.{length, getD, take, drop, drop-of-length-le}
 use lib.Seq.{take-length, drop-cons}
-use Rattle.utf8.specs.Rfc3629 as utf8
-use Rattle.utf8.specs.declared.Encoding.{Encoding}
-use Rattle.utf8.specs.declared.Encoding.the-variants.{Valid, Bad}
+use Rattle.utf8.specs.Laws as utf8
 use Rattle.append.specs.declared.Stream.{Stream}
 use Rattle.append.specs.declared.Answer.{Answer}
 use Rattle.append.specs.declared.Answer.the-variants.{Added, Malformed, Unknown, TooLong, Broken, NoRoom}
-use Rattle.append.specs.Append.{Appends, number, place, code}
-use Rattle.kinyandoma.specs.Wire.{little, fromLittle, wellFormed, unpacked, bitOf, packed, repacked, Done, Crosses}
+use Rattle.append.specs.Append.{Appends, number, code}
+use Rattle.kinyandoma.specs.Wire.{fromLittle, wellFormed, unpacked, packed, repacked, Done, Crosses}
 
 -- a number of 01's table is small
-encoding-small : (e : Encoding) → utf8.number e ≤ 8
-encoding-small Valid = omega arith
-encoding-small (Bad p) = omega arith
-
-pub number-small : (a : Answer) → number a ≤ 8
+pub number-small : (a : Answer) → number a < 16
 number-small (Added n) = omega arith
 number-small Malformed = omega arith
 number-small Unknown = omega arith
 number-small TooLong = omega arith
-number-small (Broken e) = encoding-small e
+number-small (Broken e) = utf8.number-small e
 number-small (NoRoom n) = omega arith
 
 -- the count of nine bytes

@@ -1,12 +1,11 @@
 -- Bytes stored one behind the other from a place on, those that find no room dropped: `sets` of the library, and what it does to a joined list.
-use Prim.Native.Nat.{ℕ, zero, suc, _+_, _-_, _≤_, _<_}
+use Prim.Native.Nat.{ℕ, zero, suc, _+_, _-_, _≤_}
 use native.Mathlib.Omega.{arith}
 use native.Mathlib.Nat.{add-suc, suc-add, add-zero, zero-add, le-refl}
-use native.Mathlib.Numerals.{add-one}
 use mathlib.Core.Path.{_≡_, refl, _∙_, ap, sym}
 use mathlib.Core.List.{List, [], _∷_, _++_, append-nil, append-assoc}
-use lib.ListN.{length, take, drop, set, length-set, length-take, length-drop, drop-of-length-le}
-use lib.Seq.{sets, sets-eq, set-out, length-sets, take-all, take-length, length-take-le, drop-drop}
+use lib.ListN.{length, take, drop, set, length-set, length-drop, drop-of-length-le}
+use lib.Seq.{sets, sets-eq, set-out, take-all, take-length, drop-drop}
 use borrow.Rule.Slice.PartMut.{midOf, putMid, mid-len}
 
 -- the first list, and then the second behind it

@@ -1,6 +1,6 @@
 -- Bytes written as text: each character's number. Only ASCII is written so.
 use Prim.Native.Nat.{ℕ}
-use Prim.Native.Char.{Char, code}
+use Prim.Native.Char.{code}
 use Prim.Native.String.{String, [], _∷_}
 use mathlib.Core.List as L
 use mathlib.Core.List.{List}

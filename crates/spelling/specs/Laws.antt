@@ -1,9 +1,9 @@
 -- Rules of the spelling table, each by one test that is computed over all of its rows, and a law that turns the test into the rule.
 use Prim.Native.Nat.{ℕ, _+_, _*_, _-_, _≤_, _<_}
 use native.Mathlib.Omega.{arith}
-use mathlib.Core.Path.{_≡_, refl, _∙_, sym, ap}
-use mathlib.Core.List.{List, [], _∷_}
-use mathlib.Core.Bool.{Bool, true, false, not, cond, _&&_, _||_, Bool·beq, false≢true, and-false}
+use mathlib.Core.Path.{_≡_, refl}
+use mathlib.Core.List.{List, []}
+use mathlib.Core.Bool.{Bool, true, false, not, _&&_, _||_, Bool·beq, false≢true, and-false}
 use lib.Dec.{eqb, leb, ltb}
 use lib.ListN.{length, getD, take, drop, List·getD-eq-default}
 use borrow.Author.Tests.{le-leb, lt-leb, leb-true, le-ltb, lt-ltb, ltb-true, ltb-false, ne-eqb}
@@ -11,9 +11,9 @@ use Rattle.laws.specs.Among.{all}
 use Rattle.blank.specs.Blank.{blank}
 use Rattle.laws.specs.Below.{below, at}
 use Rattle.laws.specs.Bytes.{same, equal}
-use Rattle.spelling.specs.Rows.{Row, unknown, rows}
-use Rattle.spelling.specs.Spelling.{row, isKnown, spelled, known, spelling}
-use Rattle.spelling.specs.Table.{bytes, heads, pool, spellingIn, startIn, lengthIn, within, rowsHeld, poolAt}
+use Rattle.spelling.specs.Rows.{unknown, rows}
+use Rattle.spelling.specs.Spelling.{row, known, spelling}
+use Rattle.spelling.specs.Table.{bytes, spellingIn, startIn, lengthIn, within, rowsHeld, poolAt}
 
 abbrev count : ℕ
 count = 256

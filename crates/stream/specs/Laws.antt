@@ -1,21 +1,20 @@
 -- Laws of the sink: to pour one list and then another is to pour both joined, and what each way through the append core comes to.
-use Prim.Native.Nat.{ℕ, _+_, _≤_, _<_, min}
+use Prim.Native.Nat.{ℕ, _+_, _≤_, _<_}
 use native.Mathlib.Omega.{arith}
-use native.Mathlib.Nat.{add-zero, add-assoc, suc-ne-zero}
+use native.Mathlib.Nat.{suc-ne-zero}
 use mathlib.Core.Path.{_≡_, refl, _∙_, ap, sym}
 use mathlib.Core.List.{List, [], _∷_, _++_, append-assoc}
-use mathlib.Core.Bool.{Bool, true, false, not, cond, _||_}
+use mathlib.Core.Bool.{Bool, true, false, not, _||_}
 use lib.ListN.{length, length-append}
 use lib.Seq.{sets, length-sets}
-use lib.Dec.{eqb, leb}
+use lib.Dec.{leb}
 use borrow.Author.Tests.{eq-eqb, ne-eqb, leb-true, leb-false}
 use Rattle.laws.specs.Sets.{sets-append, sets-past}
 use Rattle.laws.specs.Text.{ascii}
 use Rattle.spelling.specs.Token.{TK-BLOB}
 use Rattle.blank.specs.Blank.{allBlank}
-use Rattle.stream.specs.Stream.{Value, none, some, tight, opens, gap, gapped, blob, spelledBit, written, valuedBit, added, left}
+use Rattle.stream.specs.Stream.{Value, tight, opens, gap, gapped, blob, spelledBit, written, valuedBit, added, left}
 use Rattle.stream.specs.Sink.{State, most, count, pour, mark, step, given}
-use Rattle.stream.specs.declared.Sink.{Sink}
 
 -- counting
 pub count-none : (at : ℕ) → at ≤ most → count at 0 ≡ at

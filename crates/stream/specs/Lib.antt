@@ -1,3 +1,4 @@
 pub mod Stream
 pub mod Sink
 pub mod Laws
+pub mod Cases

@@ -1,7 +1,7 @@
 -- 01, section 1: the stream and its one bit, spaced, true at the start.
 use Prim.Native.Nat.{ℕ}
 use mathlib.Core.List.{List, [], _∷_, _++_}
-use mathlib.Core.Bool.{Bool, true, false, not, cond, _||_}
+use mathlib.Core.Bool.{Bool, not, cond, _||_}
 use lib.Dec.{eqb}
 use Rattle.laws.specs.Among.{among}
 use Rattle.laws.specs.Text.{ascii}

@@ -1,7 +1,7 @@
 -- Every row of bytes has an answer: it is a text, or the longest text that begins it ends before it does.
-use Prim.Native.Nat.{ℕ, zero, suc, _+_, _-_, _≤_, _<_}
+use Prim.Native.Nat.{ℕ, zero, suc, _+_, _≤_}
 use mathlib.Core.Path.{_≡_, refl}
-use mathlib.Core.List.{List, []}
+use mathlib.Core.List.{List}
 use mathlib.Core.Bool.{Bool, true, false}
 use native.Mathlib.Omega.{arith}
 use lib.Dec.{leb, eqb}
@@ -12,7 +12,7 @@ use Rattle.utf8.specs.declared.Encoding.{Encoding}
 use Rattle.utf8.specs.declared.Encoding.the-variants.{Valid, Bad}
 use Rattle.utf8.specs.Rfc3629.{Text, none, Encoded}
 use Rattle.utf8.specs.Scan.{width}
-use Rattle.utf8.specs.Characters.{Starts, width-none, width-starts}
+use Rattle.utf8.specs.Characters.{width-none, width-starts}
 use Rattle.utf8.specs.Laws.{text-append, text-char, longest-here}
 
 abbrev Decided : List ℕ → Type 0

@@ -13,7 +13,7 @@ use lib.Seq.{take-length, take-nil, take-add, take-append-add, getD-append-add, 
 use borrow.Author.Tests.{lt-ltb, ltb-true, ltb-false, eq-eqb, ne-eqb}
 use Rattle.utf8.specs.declared.Encoding.{Encoding}
 use Rattle.utf8.specs.declared.Encoding.the-variants.{Valid, Bad}
-use Rattle.utf8.specs.Rfc3629.{Tail, Char, Text, none, more, Longest, Encoded, number, tail, boundary}
+use Rattle.utf8.specs.Rfc3629.{Tail, Char, Text, none, more, Longest, Encoded, number, place, tail, boundary}
 use Rattle.utf8.specs.Characters.{NoChar, tail-true, true-tail, char-length, char-rest, char-lead, char-inner}
 
 -- ---- put together
@@ -74,6 +74,15 @@ encoded-unique s Valid Valid h k = refl
 encoded-unique s Valid (Bad q) h k = absurd (longest-not-text s q (k .0) (k .1) h)
 encoded-unique s (Bad p) Valid h k = absurd (longest-not-text s p (h .0) (h .1) k)
 encoded-unique s (Bad p) (Bad q) h k = ap Bad (longest-unique s p q (h .1) (k .1))
+
+-- for callers, who do not go by the cases of the answer: its number is small, and its place within the bytes
+pub number-small : (e : Encoding) → number e < 16
+number-small Valid = omega arith
+number-small (Bad p) = omega arith
+
+pub place-within : (s : List ℕ) (e : Encoding) → Encoded s e → place e ≤ length s
+place-within s Valid h = omega arith
+place-within s (Bad p) h = omega (arith, h .0)
 
 -- the answer's number says whether the bytes are a text
 pub number-text : (s : List ℕ) (r : Encoding) → Encoded s r → (number r ≡ 0) ↔ Text s

@@ -1,5 +1,4 @@
 -- `blank::blank` meets its contract: the test is the definition's, written out.
-use mathlib.Core.Path.{refl, sym, ap, _∙_}
 use mathlib.Core.Bool.{or-false}
 use Rattle.blank.specs.Blank.{blank}
 use Rattle.blank.proofs.blank.Statement.{statement}

@@ -1,5 +1,4 @@
 -- `kinyandoma::kinyandoma_append` meets its contract: a record that is not well formed is refused, and else `step` is called on the record that it packs.
-use mathlib.Core.Path.{_≡_}
 use Rattle.append.specs.Laws.{place-small}
 use Rattle.kinyandoma.specs.Laws.{well-length, not-well, well}
 use borrow.Author.Needs.{needs}
