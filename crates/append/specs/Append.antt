@@ -2,9 +2,10 @@
 use Prim.Native.Nat.{ℕ, _+_, _-_, _*_, _%_, _^_}
 use mathlib.Core.Path.{_≡_}
 use mathlib.Core.List.{List, [], _∷_, _++_}
-use mathlib.Core.Bool.{Bool, not, cond, _&&_}
+use mathlib.Core.Bool.{Bool, not, _&&_}
 use lib.Dec.{leb, ltb, eqb}
 use lib.ListN.{length, take, drop}
+use Rattle.laws.specs.First.{first}
 use Rattle.utf8.specs.Rfc3629 as utf8
 use Rattle.utf8.specs.Rfc3629.{Encoded}
 use Rattle.utf8.specs.declared.Encoding.{Encoding}
@@ -36,12 +37,7 @@ longest = 65536
 unfoldable pub broken : Encoding → Bool
 broken e = not (eqb (utf8.number e) 0)
 
--- "the first fitting refusal": of a list of conditions with what each is answered by, the first that holds
-abbrev pub first : {A : Type 0} → List (Bool × A) → A → A
-first [] other = other
-first (c ∷ cs) other = cond (c .0) (c .1) (first cs other)
-
--- "Append checks 1, 4, 2, 8." The first three, for an output of so many bytes; e is what the encoding check answers
+-- "the first fitting refusal" and "Append checks 1, 4, 2, 8." The first three, for an output of so many bytes; e is what the encoding check answers
 unfoldable pub before : Encoding → Stream → ℕ → ℕ → List ℕ → List (Bool × Answer)
 before e rec size token value =
     (ltb size (rec .count), Malformed)

@@ -19,6 +19,7 @@ use Rattle.spelling.specs.Spelling.{known, spelling}
 use Rattle.spelling.specs.Table.{bytes, spellingIn}
 use Rattle.spelling.specs.Token.{TK-BLOB}
 use Rattle.spelling.specs.Laws.{spells, short}
+use Rattle.laws.specs.First.{first, within, first-some, first-none, all-passed}
 use Rattle.laws.specs.Text.{ascii}
 use Rattle.laws.specs.Sets.{sets-within}
 use Rattle.stream.specs.Stream.{Value, none, some, tight, gap, blob, written, added, adds, leaves}
@@ -29,12 +30,12 @@ use Rattle.append.specs.declared.Answer.{Answer}
 use Rattle.append.specs.declared.Answer.the-variants.{Added, Malformed, Unknown, TooLong, Broken, NoRoom}
 use Rattle.append.specs.declared.Check.{Check}
 use Rattle.append.specs.declared.Check.the-variants.{Fine, Refused}
-use Rattle.append.specs.Append.{Appends, numberOf, present, tokenOf, news, longest, broken, first, before, room, answerTo, recordAfter, outputAfter, place}
-use Rattle.append.specs.Steps.{refusing, Checks, Writes, emitted, counted}
+use Rattle.append.specs.Append.{Appends, numberOf, present, tokenOf, news, longest, broken, before, room, answerTo, recordAfter, outputAfter, place}
+use Rattle.append.specs.Steps.{Checks, Writes, emitted, counted}
 
 -- ---- the refusals 1, 4, 2: each return is the first condition that holds
 module _ (rec : Stream) (size token : ℕ) (value : List ℕ) where
-  any : (r : Check) → ((e : Encoding) → r ≡ first (refusing (before e rec size token value)) Fine) → Checks rec size token value r
+  any : (r : Check) → ((e : Encoding) → r ≡ first (within Refused (before e rec size token value)) Fine) → Checks rec size token value r
   any r is = let d = decided value in record { encoding = d .0; encoded = d .1; is = is (d .0) }
 
   pub malformed : size < rec .count → Checks rec size token value (Refused Malformed)
@@ -159,35 +160,24 @@ added-all rec out token word value n x c w e h q =
     }
 
 -- ---- the first fitting refusal, and where there is none
-zero-ne-one : _≡_ {A = ℕ} 0 1 → ⊥
-zero-ne-one z = omega arith
+same-refusal : (a b : Answer) → Refused a ≡ Refused b → a ≡ b
+same-refusal a b e = cc
+
+not-fine : (a : Answer) → Refused a ≡ Fine → ⊥
+not-fine a e = let z : _≡_ {A = ℕ} 0 1 = cc in omega arith
+
+-- a refusal leaves all as it was
+Kept : Stream → List ℕ → ℕ → List ℕ → Answer → Type 0
+Kept rec out token value a = (rec ≡ recordAfter a rec token value) × (out ≡ outputAfter a rec out token value)
 
 data Each (P : Answer → Type 0) : List (Bool × Answer) → Type 0 where
   done : Each P []
   also : {c : Bool × Answer} {cs : List (Bool × Answer)} → P (c .1) → Each P cs → Each P (c ∷ cs)
 
-first-refused : (P : Answer → Type 0) (cs : List (Bool × Answer)) → Each P cs → (a : Answer) → Refused a ≡ first (refusing cs) Fine → P a × ((o : Answer) → a ≡ first cs o)
-first-refused P [] ps a e = let z : _≡_ {A = ℕ} 0 1 = cc in absurd (zero-ne-one z)
-first-refused P ((true, x) ∷ cs) (also p ps) a e = let q : a ≡ x = cc in (rw q p, λ o. q)
-first-refused P ((false, x) ∷ cs) (also p ps) a e = first-refused P cs ps a e
-
-first-fine : (cs : List (Bool × Answer)) → Fine ≡ first (refusing cs) Fine → (o : Answer) → first cs o ≡ o
-first-fine [] e o = refl
-first-fine ((true, x) ∷ cs) e o = let z : _≡_ {A = ℕ} 0 1 = cc in absurd (zero-ne-one z)
-first-fine ((false, x) ∷ cs) e o = first-fine cs e o
-
-abbrev Passed : List (Bool × Answer) → Type 0
-Passed [] = Unit
-Passed (c ∷ cs) = c .0 ≡ false
-
-first-passed : (cs : List (Bool × Answer)) → Fine ≡ first (refusing cs) Fine → Passed cs
-first-passed [] e = tt
-first-passed ((true, x) ∷ cs) e = let z : _≡_ {A = ℕ} 0 1 = cc in absurd (zero-ne-one z)
-first-passed ((false, x) ∷ cs) e = refl
-
--- a refusal leaves all as it was
-Kept : Stream → List ℕ → ℕ → List ℕ → Answer → Type 0
-Kept rec out token value a = (rec ≡ recordAfter a rec token value) × (out ≡ outputAfter a rec out token value)
+of-first : (P : Answer → Type 0) (cs : List (Bool × Answer)) → Each P cs → (a : Answer) → Refused a ≡ first (within Refused cs) Fine → P a
+of-first P [] ps a e = absurd (not-fine a e)
+of-first P ((true, x) ∷ cs) (also p ps) a e = rw (same-refusal a x e) p
+of-first P ((false, x) ∷ cs) (also p ps) a e = of-first P cs ps a e
 
 keeps : (e : Encoding) (rec : Stream) (out : List ℕ) (token : ℕ) (value : List ℕ) → Each (Kept rec out token value) (before e rec (length out) token value)
 unfolding before Kept recordAfter outputAfter
@@ -197,20 +187,27 @@ pub refused : (rec : Stream) (out : List ℕ) (token : ℕ) (value : List ℕ) (
 unfolding Kept answerTo
 refused rec out token value r a c e =
     let k = c .encoding in
-    let f = first-refused (Kept rec out token value) (before k rec (length out) token value) (keeps k rec out token value) a (sym e ∙ c .is) in
-    record { encoding = k; encoded = c .encoded; answers = f .1 (room rec (length out) (length (news rec token value))); leave = f .0 .0; writes = f .0 .1 }
+    let cs = before k rec (length out) token value in
+    let f = of-first (Kept rec out token value) cs (keeps k rec out token value) a (sym e ∙ c .is) in
+    record {
+      encoding = k;
+      encoded = c .encoded;
+      answers = first-some Refused Fine same-refusal not-fine cs a (room rec (length out) (length (news rec token value))) (sym e ∙ c .is);
+      leave = f .0;
+      writes = f .1;
+    }
 
 pub fine-room : (rec : Stream) (out : List ℕ) (token : ℕ) (value : List ℕ) (r : Check) → Checks rec (length out) token value r → r ≡ Fine → rec .count ≤ length out
 unfolding before
 fine-room rec out token value r c e =
-    ltb-false (length out) (rec .count) (first-passed (before (c .encoding) rec (length out) token value) (sym e ∙ c .is))
+    ltb-false (length out) (rec .count) (all-passed Refused Fine same-refusal not-fine (before (c .encoding) rec (length out) token value) (sym e ∙ c .is) .0)
 
 pub accepted : (rec : Stream) (out : List ℕ) (token : ℕ) (value : List ℕ) (r : Check) (a : Answer) (rec′ : Stream) (out′ : List ℕ)
     → Checks rec (length out) token value r → r ≡ Fine → Writes rec out token value a rec′ out′ → Appends rec out token value a rec′ out′
 unfolding answerTo
 accepted rec out token value r a rec′ out′ c e w =
     let k = c .encoding in
-    let f = first-fine (before k rec (length out) token value) (sym e ∙ c .is) (room rec (length out) (length (news rec token value))) in
+    let f = first-none Refused Fine same-refusal not-fine (before k rec (length out) token value) (room rec (length out) (length (news rec token value))) (sym e ∙ c .is) in
     record { encoding = k; encoded = c .encoded; answers = w .answers ∙ sym f; leave = w .leave; writes = w .writes }
 
 -- no two outcomes satisfy the contract

@@ -5,6 +5,7 @@ use mathlib.Core.Path.{_≡_, refl, _∙_, ap, sym}
 use mathlib.Core.List.{List, _++_, append-nil}
 use mathlib.Core.Bool.{Bool, true, false, not}
 use borrow.Author.Tests.{eqb-true, not-true, not-false}
+use Rattle.laws.specs.Little.{fromLittle}
 use Rattle.laws.specs.Tests.{and-left}
 use Rattle.append.specs.Laws as append
 use lib.Dec.{leb, eqb}
@@ -15,7 +16,7 @@ use Rattle.append.specs.declared.Stream.{Stream}
 use Rattle.append.specs.declared.Answer.{Answer}
 use Rattle.append.specs.declared.Answer.the-variants.{Added, Malformed, Unknown, TooLong, Broken, NoRoom}
 use Rattle.append.specs.Append.{Appends, number, code}
-use Rattle.kinyandoma.specs.Wire.{fromLittle, wellFormed, unpacked, packed, repacked, Done, Crosses}
+use Rattle.kinyandoma.specs.Wire.{wellFormed, unpacked, packed, repacked, Done, Crosses}
 
 -- a number of 01's table is small
 pub number-small : (a : Answer) → number a < 16

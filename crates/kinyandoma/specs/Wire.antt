@@ -1,23 +1,15 @@
 -- 01, sections 3 and 9: append as the engine calls it, with the record as 9 bytes and the answer as one number.
-use Prim.Native.Nat.{ℕ, zero, suc, _+_, _*_, _/_, _%_}
+use Prim.Native.Nat.{ℕ}
 use mathlib.Core.Path.{_≡_}
-use mathlib.Core.List.{List, [], _∷_}
+use mathlib.Core.List.{List, _∷_}
 use mathlib.Core.Bool.{Bool, true, false, _&&_}
 use lib.Dec.{leb, eqb}
 use lib.ListN.{length, getD, drop}
+use Rattle.laws.specs.Little.{little, fromLittle}
 use Rattle.append.specs.declared.Stream.{Stream}
 use Rattle.append.specs.declared.Answer.{Answer}
 use Rattle.append.specs.declared.Answer.the-variants.{Added, Malformed, Unknown, TooLong, Broken, NoRoom}
 use Rattle.append.specs.Append.{Appends, code}
-
--- a number in k bytes, little-endian, and the number of such bytes
-abbrev pub little : ℕ → ℕ → List ℕ
-little zero n = []
-little (suc k) n = n % 256 ∷ little k (n / 256)
-
-abbrev pub fromLittle : List ℕ → ℕ
-fromLittle [] = 0
-fromLittle (b ∷ bs) = b + 256 * fromLittle bs
 
 -- "a lent record crosses as 9 bytes (0 or 1, then the count, little-endian; all else is malformed)"
 unfoldable pub wellFormed : List ℕ → Bool

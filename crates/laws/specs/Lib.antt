@@ -2,6 +2,8 @@ pub mod Among
 pub mod Below
 pub mod Bytes
 pub mod Determined
+pub mod First
+pub mod Little
 pub mod Sets
 pub mod Tests
 pub mod Text

@@ -1,6 +1,6 @@
--- Parts of a conjunction of tests.
+-- Parts of a conjunction of tests, and two tests that come to the same.
 use mathlib.Core.Path.{_≡_, refl}
-use mathlib.Core.Bool.{Bool, true, false, _&&_, false≢true}
+use mathlib.Core.Bool.{Bool, true, false, _&&_, Bool·beq, false≢true}
 
 pub and-left : (a b : Bool) → a && b ≡ true → a ≡ true
 and-left true b e = refl
@@ -15,3 +15,9 @@ and-both a b p q = rw (p, q)
 
 pub and-parts : (a b : Bool) → a && b ≡ true → (a ≡ true) × (b ≡ true)
 and-parts a b h = (and-left a b h, and-right a b h)
+
+pub beq : (a b : Bool) → Bool·beq a b ≡ true → a ≡ b
+beq true true h = refl
+beq true false h = absurd (false≢true h)
+beq false true h = absurd (false≢true h)
+beq false false h = refl

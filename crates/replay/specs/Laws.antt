@@ -10,7 +10,8 @@ use borrow.Author.Tests.{ltb-false}
 use Rattle.append.specs.declared.Stream.{Stream}
 use Rattle.append.specs.declared.Answer.{Answer}
 use Rattle.append.specs.declared.Answer.the-variants.{Added, Malformed, Unknown, TooLong, Broken, NoRoom}
-use Rattle.append.specs.Append.{Appends, first, before, room, answerTo, recordAfter, news}
+use Rattle.laws.specs.First.{first}
+use Rattle.append.specs.Append.{Appends, before, room, answerTo, recordAfter, news}
 
 -- ---- where append answers that it added, no refusal fitted
 abbrev Refusal : Answer → Type 0

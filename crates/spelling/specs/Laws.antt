@@ -3,7 +3,7 @@ use Prim.Native.Nat.{ℕ, _+_, _*_, _-_, _≤_, _<_}
 use native.Mathlib.Omega.{arith}
 use mathlib.Core.Path.{_≡_, refl}
 use mathlib.Core.List.{List, []}
-use mathlib.Core.Bool.{Bool, true, false, not, _&&_, _||_, Bool·beq, false≢true, and-false}
+use mathlib.Core.Bool.{Bool, true, false, not, _&&_, _||_, Bool·beq, and-false}
 use lib.Dec.{eqb, leb, ltb}
 use lib.ListN.{length, getD, take, drop, List·getD-eq-default}
 use borrow.Author.Tests.{le-leb, lt-leb, leb-true, le-ltb, lt-ltb, ltb-true, ltb-false, ne-eqb}
@@ -11,6 +11,7 @@ use Rattle.laws.specs.Among.{all}
 use Rattle.blank.specs.Blank.{blank}
 use Rattle.laws.specs.Below.{below, at}
 use Rattle.laws.specs.Bytes.{same, equal}
+use Rattle.laws.specs.Tests.{beq}
 use Rattle.spelling.specs.Rows.{unknown, rows}
 use Rattle.spelling.specs.Spelling.{row, known, spelling}
 use Rattle.spelling.specs.Table.{bytes, spellingIn, startIn, lengthIn, within, rowsHeld, poolAt}
@@ -30,12 +31,6 @@ everywhere P k lo hi = by (ltb k count) refl
     by : (b : Bool) → ltb k count ≡ b → P k
     by true e = lo (ltb-true k count e)
     by false e = hi (ltb-false k count e)
-
-beq : (a b : Bool) → Bool·beq a b ≡ true → a ≡ b
-beq true true h = refl
-beq true false h = absurd (false≢true h)
-beq false true h = absurd (false≢true h)
-beq false false h = refl
 
 -- R1: known are exactly 0 to 168, 185 to 193 and 255
 abbrev pub ranged : ℕ → Bool

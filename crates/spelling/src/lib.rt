@@ -62,8 +62,8 @@ pub fn table() -> [u8; 1406]
     TABLE
 }
 
-// The byte at i, or 0 past the end.
-fn byte(table: &[u8], i: usize) -> usize
+// The byte at i of a lent table, or 0 past the end.
+pub fn byte(table: &[u8], i: usize) -> usize
     ensures value { λ r. ⌜ r ≡ getD (now (table .entry)) i 0 ⌝ }
     ensures small { λ r. ⌜ r ≤ 255 ⌝ }
 {
