@@ -1,0 +1,8 @@
+pub mod Kind
+pub mod Shape
+pub mod Grammar
+pub mod Slots
+pub mod Classes
+pub mod Bytes
+pub mod Table
+pub mod Laws
