@@ -1,0 +1,24 @@
+-- `tree::check` meets its contract: each return is the first refusal that fits, or what the records come to.
+use Rattle.tree.specs.Whole.{is-malformed, too-long, ill, looked-at}
+use borrow.Author.Needs.{needs}
+use Rattle.tree.proofs.check.Statement.{statement}
+use Rattle.tree.proofs.check.Tie as tie
+
+returns : tie.Need-returns
+returns c = is-malformed _ _ _ (c .before .malformed .ensures) (c .if1 .taken)
+
+returns-2 : tie.Need-returns-2
+returns-2 c = too-long _ _ _ (c .before .before .malformed .ensures) (c .before .if1 .left) (c .if2 .taken)
+
+returns-3 : tie.Need-returns-3
+returns-3 c = ill _ _ _ (c .before .before .before .before .before .malformed .ensures) (c .before .before .before .before .if1 .left) (c .before .before .before .if2 .left) (c .before .before .check .result) _ (c .before .before .check .ensures) (c .before .number .ensures) (c .if3 .taken)
+
+returns-4 : tie.Need-returns-4
+returns-4 c = looked-at _ _ _ (c .before .before .before .before .before .before .malformed .ensures) (c .before .before .before .before .before .if1 .left) (c .before .before .before .before .if2 .left) (c .before .before .before .check .result) _ (c .before .before .before .check .ensures) (c .before .before .number .ensures) _ (c .before .if3 .left) (c .check-records .ensures)
+
+pub check-spec : {M : Type 1} → statement M
+check-spec =
+    tie.close
+    (tie.spec
+    (λ c κs. search needs) returns returns-2 (λ c κs. search needs) (λ c κs. search needs) returns-3
+    (λ c κs. search needs) returns-4)

@@ -1,0 +1,26 @@
+-- `tree::first_fault` meets its contract: each return is the first fault that is found.
+use Rattle.tree.specs.Laws.{bad-mark, misfit, outside, deep, fine}
+use borrow.Author.Needs.{needs}
+use Rattle.tree.proofs.first_fault.Statement.{statement}
+use Rattle.tree.proofs.first_fault.Tie as tie
+
+returns : tie.Need-returns
+returns c = bad-mark (c .before .before .before .before .args .text .now) (c .before .before .before .before .args .r) _ _ _ (c .if1 .taken)
+
+fits-requires : tie.Need-fits-requires
+fits-requires c κs = c .before .before .before .before .pre
+
+returns-2 : tie.Need-returns-2
+returns-2 c = misfit (c .before .before .before .before .before .before .args .text .now) (c .before .before .before .before .before .before .args .r) _ _ _ (c .before .before .if1 .left) _ (c .before .fits2 .ensures) (c .if2 .taken)
+
+returns-3 : tie.Need-returns-3
+returns-3 c = outside (c .before .before .before .before .before .before .before .before .args .text .now) (c .before .before .before .before .before .before .before .before .args .r) _ _ _ (c .before .before .before .before .if1 .left) _ (c .before .before .before .fits2 .ensures) (c .before .before .if2 .left) _ (c .before .inside .ensures) (c .if3 .taken)
+
+returns-4 : tie.Need-returns-4
+returns-4 c = deep (c .before .before .before .before .before .before .before .before .before .args .text .now) (c .before .before .before .before .before .before .before .before .before .args .r) _ _ _ (c .before .before .before .before .before .if1 .left) _ (c .before .before .before .before .fits2 .ensures) (c .before .before .before .if2 .left) _ (c .before .before .inside .ensures) (c .before .if3 .left) (c .if4 .taken)
+
+returns-5 : tie.Need-returns-5
+returns-5 c = fine (c .before .before .before .before .before .before .before .before .before .args .text .now) (c .before .before .before .before .before .before .before .before .before .args .r) _ _ _ (c .before .before .before .before .before .if1 .left) _ (c .before .before .before .before .fits2 .ensures) (c .before .before .before .if2 .left) _ (c .before .before .inside .ensures) (c .before .if3 .left) (c .if4 .left)
+
+pub first-fault-spec : {M : Type 1} → statement M
+first-fault-spec = tie.close (tie.spec returns fits-requires returns-2 (λ c κs. search needs) returns-3 returns-4 returns-5)

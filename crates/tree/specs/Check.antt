@@ -1,0 +1,126 @@
+-- 01, section 3: what a tree and a text are answered by. "Order: 1, 2, then the records by index, and at each 3, 4, 5, 6; then 7."
+use Prim.Native.Nat.{ℕ, zero, suc, _+_, _%_}
+use mathlib.Core.Path.{_≡_}
+use mathlib.Core.List.{List, [], _∷_, _++_, map}
+use mathlib.Core.Bool.{Bool, true, not, cond, _&&_, _||_}
+use lib.Dec.{leb, ltb, eqb}
+use lib.ListN.{length, replicate}
+use Rattle.laws.specs.First.{first}
+use Rattle.utf8.specs.Rfc3629 as utf8
+use Rattle.utf8.specs.Rfc3629.{Encoded, boundary}
+use Rattle.utf8.specs.declared.Encoding.{Encoding}
+use Rattle.spelling.specs.Spelling.{known}
+use Rattle.record.specs.Record.{recordAt, count, markOk}
+use Rattle.record.specs.declared.Record.{Record}
+use Rattle.grammar.specs.Kind.{LIST, TOKEN, RUN, TEXT, NUMBER}
+use Rattle.grammar.specs.Shape.{Class, one, list, oneOr, small}
+use Rattle.grammar.specs.Grammar.{shape, root}
+use Rattle.grammar.specs.Slots.{slotsOf, flagsBelow, allowed, elements}
+use Rattle.tree.specs.declared.Answer.{Answer}
+use Rattle.tree.specs.declared.Answer.the-variants.{Admitted, Malformed, TooLong, Broken, Mark, Misfit, Outside, Deep, Ends}
+
+-- a place that a record must stand in: what may stand there, and how deep it is, the root being 1
+pub record Place : Type 0 where
+  pub class : Class
+  pub depth : ℕ
+
+abbrev pub place : ℕ → Class → Place
+place d c = record { class = c; depth = d }
+
+-- the places of a record's children: a LIST's as its own place says, a RUN's are TOKENs, and else the kind's slots
+unfoldable pub holds : Class → Record → List Class
+holds c r =
+    cond (eqb (r .kind) LIST) (replicate (r .kids) (elements c))
+    (cond (eqb (r .kind) RUN) (replicate (r .kids) (one (TOKEN ∷ []))) (slotsOf (shape (r .kind))))
+
+-- a TOKEN's flags are its number and, at bit 15, whether a value is present
+unfoldable pub flagsFit : Record → Bool
+flagsFit r = cond (eqb (r .kind) TOKEN) (known (r .flags % 0x8000)) (ltb (r .flags) (flagsBelow (shape (r .kind))))
+
+-- a TEXT has a text part, and so has a TOKEN with a value
+unfoldable pub hasPart : Record → Bool
+hasPart r = eqb (r .kind) TEXT || (eqb (r .kind) TOKEN && leb 0x8000 (r .flags))
+
+-- bytes 8-15 are a text part, a number, or not used and zero
+unfoldable pub fieldsFit : Record → Bool
+fieldsFit r = hasPart r || (eqb (r .kind) NUMBER || (eqb (r .start) 0 && eqb (r .len) 0))
+
+-- a NUMBER where only 0 to 255 may stand
+unfoldable pub rangeFits : Class → Record → Bool
+rangeFits small r = ltb (r .start) 256 && eqb (r .len) 0
+rangeFits (one ks) r = true
+rangeFits (list c) r = true
+rangeFits (oneOr ks c) r = true
+
+-- "kind not allowed here, wrong child count, undefined flag, unused field not zero, unknown token, number out of range"
+unfoldable pub fits : Class → Record → Bool
+fits c r =
+    allowed c (r .kind) && (eqb (r .kids) (length (holds c r)) && (flagsFit r && (fieldsFit r && rangeFits c r)))
+
+-- "text part not inside the text, or an end inside a character"
+unfoldable pub inside : List ℕ → Record → Bool
+inside x r =
+    not (hasPart r) || (leb (r .start + r .len) (length x) && (boundary x (r .start) && boundary x (r .start + r .len)))
+
+abbrev pub deepest : ℕ
+deepest = 64
+
+-- at each record 3, 4, 5, 6
+unfoldable pub faults : List ℕ → Record → ℕ → Place → List (Bool × Answer)
+faults x r i p =
+    (not (markOk r), Mark i)
+    ∷ (not (fits (p .class) r), Misfit i)
+    ∷ (not (inside x r), Outside i)
+    ∷ (ltb deepest (p .depth), Deep i)
+    ∷ []
+
+-- the n records from index i on, which must fill these places, in order: "children follow their parent at once".
+-- 7: "a needed record is past the end, or records remain after the root"
+unfoldable pub scan : List ℕ → List ℕ → ℕ → ℕ → List Place → Answer
+scan t x zero i [] = Admitted
+scan t x zero i (p ∷ ps) = Ends i
+scan t x (suc n) i [] = Ends i
+scan t x (suc n) i (p ∷ ps) =
+    first (faults x (recordAt t i) i p) (scan t x n (i + 1) (map (place (p .depth + 1)) (holds (p .class) (recordAt t i)) ++ ps))
+
+abbrev pub longest : ℕ
+longest = 65536
+
+-- "tree empty, over 65,536 bytes, or not a multiple of 16"
+unfoldable pub malformed : List ℕ → Bool
+malformed t = eqb (length t) 0 || (ltb longest (length t) || not (eqb (length t % 16) 0))
+
+-- the answer; e is what the encoding check says of the text
+unfoldable pub answerTo : Encoding → List ℕ → List ℕ → Answer
+answerTo e t x =
+    first
+    ((malformed t, Malformed) ∷ (ltb longest (length x), TooLong) ∷ (not (eqb (utf8.number e) 0), Broken e) ∷ [])
+    (scan t x (count t) 0 (place 1 root ∷ []))
+
+pub record Checks (t x : List ℕ) (answer : Answer) : Type 0 where
+  pub encoding : Encoding
+  pub encoded : Encoded x encoding
+  pub answers : answer ≡ answerTo encoding t x
+
+-- the number and the place of each answer
+abbrev pub numberOf : Answer → ℕ
+numberOf Admitted = 0
+numberOf Malformed = 1
+numberOf TooLong = 2
+numberOf (Broken e) = utf8.number e
+numberOf (Mark i) = 3
+numberOf (Misfit i) = 4
+numberOf (Outside i) = 5
+numberOf (Deep i) = 6
+numberOf (Ends i) = 7
+
+abbrev pub placeOf : Answer → ℕ
+placeOf Admitted = 0
+placeOf Malformed = 0
+placeOf TooLong = longest
+placeOf (Broken e) = utf8.place e
+placeOf (Mark i) = i
+placeOf (Misfit i) = i
+placeOf (Outside i) = i
+placeOf (Deep i) = i
+placeOf (Ends i) = i

@@ -1,0 +1,5 @@
+pub mod Check
+pub mod Walk
+pub mod Laws
+pub mod Steps
+pub mod Whole
