@@ -1,5 +1,5 @@
 #!/usr/bin/env bash
-# Builds the oracle, holds the stored files to it, and compares the library with the crate.
+# Builds the oracle, holds the stored files to it, and compares the library with the crate and the check with the model.
 # `run.sh --store` writes the stored files instead, and ends.
 set -euo pipefail
 
@@ -7,11 +7,16 @@ set -euo pipefail
 SPELLINGS=crates/spellings/stdout
 CASES=crates/replay/stdin
 EXPECTED=crates/replay/stdout
+TREES=crates/replay_trees/stdin
+ANSWERS=crates/replay_trees/stdout
 
 # Extent of the comparison.
 TOKENS=${TOKENS:-2000000}
 REFUSED=${REFUSED:-2000000}
 SEED=${SEED:-1}
+TREE_CASES=${TREE_CASES:-1000000}
+LISTED=1000
+LISTED_SEED=1
 
 oracle=$(cd "$(dirname "${BASH_SOURCE[0]}")" && pwd)
 cd "$oracle/.."
@@ -36,6 +41,7 @@ make_files() {
     mkdir -p "$made"
     "$programs/tokens" spellings --bare > "$made/spellings"
     "$programs/tokens" cases "$made/cases" "$made/expected"
+    "$programs/model" cases "$LISTED" "$LISTED_SEED" "$made/trees" "$made/answers"
 }
 
 store() {
@@ -56,6 +62,8 @@ for_each_file() {
     "$1" spellings "$SPELLINGS"
     "$1" cases "$CASES"
     "$1" expected "$EXPECTED"
+    "$1" trees "$TREES"
+    "$1" answers "$ANSWERS"
 }
 
 check_sources
@@ -75,3 +83,7 @@ echo "the library against the crate:"
 rt staticlib kinyandoma
 KINYANDOMA_LIB=target/staticlib build --package compare
 "$programs/compare" "$TOKENS" "$REFUSED" "$SEED"
+
+echo "the check of trees against the model:"
+rt check replay_trees
+"$programs/model" stream "$TREE_CASES" "$SEED" | target/bin/replay_trees | "$programs/model" judge "$TREE_CASES" "$SEED"

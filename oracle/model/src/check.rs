@@ -1,0 +1,136 @@
+//! The refusals of a tree and its text.
+
+use crate::grammar::{
+    self, known_token, row, takes, Class, Slot, LIST, NONE, NUMBER, ROOT, ROOT_ELEMENT, RUN, TEXT,
+    TOKEN, TOKENS,
+};
+use crate::record::{Record, MARK, MOST_BYTES, SIZE, VALUE_PRESENT};
+
+pub const DEEPEST: usize = 64;
+
+/// A refusal number and its place.
+type Refusal = (u32, u32);
+
+/// The number and place of the first refusal, (0, 0) if the tree is admitted.
+pub fn check(tree: &[u8], text: &[u8]) -> (u32, u32) {
+    match first_refusal(tree, text) {
+        Ok(()) => (0, 0),
+        Err(refusal) => refusal,
+    }
+}
+
+fn first_refusal(tree: &[u8], text: &[u8]) -> Result<(), Refusal> {
+    if tree.is_empty() || tree.len() > MOST_BYTES || !tree.len().is_multiple_of(SIZE) {
+        return Err((1, 0));
+    }
+    if text.len() > MOST_BYTES {
+        return Err((2, MOST_BYTES as u32));
+    }
+    let text = std::str::from_utf8(text).map_err(|error| (2, error.valid_up_to() as u32))?;
+    let next = 0;
+    let mut walk = Walk { tree, text, next };
+    walk.record(&ROOT, 1)?;
+    walk.end()
+}
+
+struct Walk<'a> {
+    tree: &'a [u8],
+    text: &'a str,
+    next: usize,
+}
+
+impl Walk<'_> {
+    /// The next record, which stands in this slot, and all below it.
+    fn record(&mut self, slot: &'static Slot, depth: usize) -> Result<(), Refusal> {
+        let index = self.next as u32;
+        let record = Record::read(self.tree, self.next).ok_or((7, index))?;
+        self.next += 1;
+        let allowed = takes(slot, record.kind) && well_formed(&record, &slot.class);
+        let tests = [
+            (3, record.mark == MARK),
+            (4, allowed),
+            (5, part_inside(&record, self.text)),
+            (6, depth <= DEEPEST),
+        ];
+        match tests.iter().find(|(_, passed)| !passed) {
+            Some(&(number, _)) => Err((number, index)),
+            None => self.children(&record, slot, depth + 1),
+        }
+    }
+
+    fn children(&mut self, parent: &Record, slot: &Slot, depth: usize) -> Result<(), Refusal> {
+        if let Some(every) = slot_of_every_child(parent.kind, slot) {
+            return (0..parent.children).try_for_each(|_| self.record(every, depth));
+        }
+        let slots = row(parent.kind).map_or(&[][..], |kind| kind.slots);
+        slots.iter().try_for_each(|slot| self.record(slot, depth))
+    }
+
+    /// Nothing may be left over.
+    fn end(&self) -> Result<(), Refusal> {
+        if self.next * SIZE < self.tree.len() {
+            return Err((7, self.next as u32));
+        }
+        Ok(())
+    }
+}
+
+/// The one slot of all children of a LIST or RUN, which stands in the given slot.
+pub fn slot_of_every_child(kind: u16, slot: &Slot) -> Option<&'static Slot> {
+    match (kind, slot.class) {
+        (RUN, _) => Some(&TOKENS),
+        (LIST, Class::List(element)) => Some(element),
+        (LIST, _) => Some(&ROOT_ELEMENT),
+        _ => None,
+    }
+}
+
+/// Child count, flags, fields and number, for a kind that may stand here.
+fn well_formed(record: &Record, class: &Class) -> bool {
+    let childless = record.children == 0;
+    let flagless = record.flags == 0;
+    let partless = record.start == 0 && record.length == 0;
+    match record.kind {
+        NONE => childless && flagless && partless,
+        LIST | RUN => flagless && partless,
+        TOKEN => childless && token(record.flags) && (has_value(record) || partless),
+        TEXT => childless && flagless,
+        NUMBER => childless && flagless && number_in(class, record.as_number()),
+        _ => partless && row(record.kind).is_some_and(|kind| fits_row(record, kind)),
+    }
+}
+
+fn fits_row(record: &Record, kind: &grammar::Kind) -> bool {
+    usize::from(record.children) == kind.slots.len() && kind.flags.takes(record.flags)
+}
+
+fn token(flags: u16) -> bool {
+    known_token(flags & !VALUE_PRESENT)
+}
+
+fn has_value(record: &Record) -> bool {
+    record.flags & VALUE_PRESENT != 0
+}
+
+fn number_in(class: &Class, number: i64) -> bool {
+    match *class {
+        Class::Number(first, last) => (first..=last).contains(&number),
+        _ => false,
+    }
+}
+
+/// True of a record that has no text part.
+fn part_inside(record: &Record, text: &str) -> bool {
+    let has_part = match record.kind {
+        TEXT => true,
+        TOKEN => has_value(record),
+        _ => false,
+    };
+    let end = u64::from(record.start) + u64::from(record.length);
+    !has_part || (at_edge(text, u64::from(record.start)) && at_edge(text, end))
+}
+
+/// Inside the text or at its end, and not inside a character.
+fn at_edge(text: &str, place: u64) -> bool {
+    place <= text.len() as u64 && text.is_char_boundary(place as usize)
+}

@@ -1,0 +1,15 @@
+//! A model of the flat tree, written from the documents: grammar, refusals, encoding, test trees.
+
+pub mod check;
+pub mod damage;
+pub mod encode;
+pub mod files;
+pub mod fixed;
+pub mod grammar;
+pub mod grow;
+pub mod judge;
+pub mod outline;
+pub mod random;
+pub mod record;
+pub mod row;
+pub mod tally;

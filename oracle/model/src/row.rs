@@ -1,0 +1,64 @@
+//! The row of cases that a seed gives: a good tree, then damaged copies of it.
+
+use crate::check::check;
+use crate::damage::{damage, Case};
+use crate::encode::Pair;
+use crate::{grow, random};
+use tokens::random::Random;
+
+/// Damaged copies of each good tree.
+const COPIES: usize = 4;
+
+pub const GOOD: &str = "good";
+
+pub struct Row {
+    random: Random,
+    good: Case,
+    copies: usize,
+}
+
+/// A case with the name of what was done to it.
+pub type Named = (&'static str, Case);
+
+impl Row {
+    pub fn new(seed: u64) -> Row {
+        Row {
+            random: Random::new(seed),
+            good: Case::from((vec![], vec![])),
+            copies: 0,
+        }
+    }
+}
+
+impl Iterator for Row {
+    type Item = Named;
+
+    fn next(&mut self) -> Option<Named> {
+        if self.copies == 0 {
+            self.copies = COPIES;
+            self.good = good(&mut self.random).into();
+            return Some((GOOD, self.good.clone()));
+        }
+        self.copies -= 1;
+        let mut case = self.good.clone();
+        let name = damage(&mut self.random, &mut case);
+        Some((name, case))
+    }
+}
+
+/// From a value of the crate's types mostly, from the grammar alone sometimes.
+pub fn good(random: &mut Random) -> Pair {
+    let (tree, text) = match random.below(16) {
+        0..=11 => random::pair(random),
+        12..=14 => {
+            let records = random.between(1, 60);
+            grow::tree(random, records)
+        }
+        _ => {
+            let depth = random.between(1, 64);
+            grow::chain(random, depth)
+        }
+    };
+    assert_eq!(check(&tree, &text), (0, 0), "a good tree is admitted");
+    (tree, text)
+}

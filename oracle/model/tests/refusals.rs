@@ -1,0 +1,236 @@
+//! Examples made by hand: the document's cases, and each refusal at its smallest.
+
+use model::check::check;
+use model::damage::Case;
+use model::fixed::{drop_type, of};
+use model::grammar::{LIST, NONE, NUMBER, RUN, TEXT, TOKEN};
+use model::grow;
+use model::record::{Record, SIZE, VALUE_PRESENT};
+use tokens::random::Random;
+
+fn answer(case: &Case) -> (u32, u32) {
+    check(&case.tree, &case.text)
+}
+
+fn of_records(records: &[Record]) -> (u32, u32) {
+    answer(&of(records, &[]))
+}
+
+/// FROM (((..))): each FromClause and each Sub is one level.
+fn subs(depth: usize) -> Case {
+    let mut records = Vec::new();
+    for level in 1..depth {
+        let kind = if level % 2 == 1 { 85 } else { 90 };
+        records.push(Record::new(kind, 2));
+    }
+    records.push(Record::new(RUN, 0));
+    for level in (1..depth).rev() {
+        let after = if level % 2 == 1 { LIST } else { NONE };
+        records.push(Record::new(after, 0));
+    }
+    of(&records, &[])
+}
+
+#[test]
+fn the_example_is_the_documents() {
+    let tree = [
+        0x53, 0x4E, 0x0A, 0, 0, 0, 1, 0, 0, 0, 0, 0, 0, 0, 0, 0, //
+        0x53, 0x4E, 0x3D, 0, 1, 0, 1, 0, 0, 0, 0, 0, 0, 0, 0, 0, //
+        0x53, 0x4E, 0x04, 0, 0, 0, 0, 0, 0, 0, 0, 0, 3, 0, 0, 0,
+    ];
+    assert_eq!(drop_type(b"geo").tree, tree);
+    assert_eq!(check(&tree, b"geo"), (0, 0));
+}
+
+#[test]
+fn a_wrong_mark_with_bad_text_is_2() {
+    let mut case = drop_type(b"ge\xFF");
+    case.tree[0] = 0;
+    assert_eq!(answer(&case), (2, 2));
+}
+
+#[test]
+fn depth_64_passes_and_65_is_6() {
+    assert_eq!(answer(&subs(63)), (0, 0));
+    assert_eq!(answer(&subs(64)), (0, 0));
+    assert_eq!(answer(&subs(65)), (6, 64));
+    assert_eq!(answer(&subs(66)), (6, 64));
+}
+
+#[test]
+fn at_65_the_other_refusals_come_first() {
+    let mut marked = subs(65);
+    marked.edit(64, |record| record.mark = [0, 0]);
+    assert_eq!(answer(&marked), (3, 64));
+    let mut flagged = subs(65);
+    flagged.edit(64, |record| record.flags = 1);
+    assert_eq!(answer(&flagged), (4, 64));
+    let mut cut = subs(65);
+    cut.tree.truncate(64 * SIZE);
+    assert_eq!(answer(&cut), (7, 64));
+}
+
+#[test]
+fn a_chain_is_as_deep_as_asked() {
+    let mut random = Random::new(3);
+    for depth in 1..=70 {
+        let case = Case::from(grow::chain(&mut random, depth));
+        let expected = if depth > 64 { 6 } else { 0 };
+        assert_eq!(answer(&case).0, expected, "depth {depth}");
+    }
+}
+
+#[test]
+fn refusal_1() {
+    let run = Record::new(RUN, 0).bytes();
+    assert_eq!(check(&[], &[]), (1, 0));
+    assert_eq!(check(&run[..15], &[]), (1, 0));
+    assert_eq!(check(&[&run[..], &[0]].concat(), &[0xFF]), (1, 0));
+    let list = |count: u16| {
+        let mut tree = Record::new(LIST, count).bytes().to_vec();
+        (0..count).for_each(|_| tree.extend(run));
+        tree
+    };
+    assert_eq!(list(4095).len(), 65_536);
+    assert_eq!(check(&list(4095), &[]), (0, 0));
+    assert_eq!(check(&list(4096), &[]), (1, 0));
+}
+
+#[test]
+fn refusal_2() {
+    let run = Record::new(RUN, 0).bytes();
+    assert_eq!(check(&run, &[0xFF]), (2, 0));
+    assert_eq!(check(&run, b"a\xC3\xA9\xE2\x82"), (2, 3));
+    assert_eq!(check(&run, &vec![b'x'; 65_536]), (0, 0));
+    assert_eq!(check(&run, &vec![b'x'; 65_537]), (2, 65_536));
+    assert_eq!(check(&run, &vec![0xFF; 65_537]), (2, 65_536));
+}
+
+#[test]
+fn refusal_3() {
+    let mut case = drop_type(b"geo");
+    case.edit(1, |record| record.mark = [0x4E, 0x53]);
+    assert_eq!(answer(&case), (3, 1));
+}
+
+#[test]
+fn refusal_4_for_the_kind() {
+    for kind in [0, 2, 4, 5, 6, 9, 11, 31, 65, 79, 119, 121, 256 + RUN] {
+        assert_eq!(of_records(&[Record::new(kind, 0)]), (4, 0), "root {kind}");
+    }
+    for kind in [0, 1, 2, 4, 5, 10, 119] {
+        let slots = u16::from(kind == 10);
+        let records = [Record::new(LIST, 1), Record::new(kind, slots)];
+        assert_eq!(of_records(&records), (4, 1), "in a root LIST {kind}");
+    }
+    let run_in_cmd = [Record::new(10, 1), Record::new(RUN, 0)];
+    assert_eq!(of_records(&run_in_cmd), (0, 0));
+    assert_eq!(
+        of_records(&[Record::new(44, 1), Record::new(NONE, 0)]),
+        (4, 1)
+    );
+    assert_eq!(
+        of_records(&[Record::new(33, 1), Record::new(NONE, 0)]),
+        (0, 0)
+    );
+    assert_eq!(of_records(&[Record::new(109, 0)]), (0, 0));
+}
+
+#[test]
+fn refusal_4_for_counts_and_flags() {
+    assert_eq!(of_records(&[Record::new(109, 1)]), (4, 0));
+    assert_eq!(of_records(&[Record::new(44, 0)]), (4, 0));
+    assert_eq!(of_records(&[Record::new(44, 2)]), (4, 0));
+    assert_eq!(of_records(&[Record::flagged(44, 1, 1)]), (4, 0));
+    assert_eq!(of_records(&[Record::flagged(61, 2, 1)]), (4, 0));
+    assert_eq!(of_records(&[Record::flagged(39, 7, 6)]), (7, 1));
+    assert_eq!(of_records(&[Record::flagged(39, 8, 6)]), (4, 0));
+    assert_eq!(of_records(&[Record::flagged(106, 2, 3)]), (7, 1));
+    assert_eq!(of_records(&[Record::flagged(106, 3, 3)]), (4, 0));
+    assert_eq!(of_records(&[Record::flagged(10, 4, 1)]), (4, 0));
+    assert_eq!(of_records(&[Record::flagged(RUN, 1, 0)]), (4, 0));
+}
+
+#[test]
+fn refusal_4_for_tokens() {
+    let token = |record: Record| answer(&of(&[Record::new(RUN, 1), record], b"x"));
+    for number in [0, 168, 185, 193, 255] {
+        assert_eq!(token(Record::flagged(TOKEN, number, 0)), (0, 0));
+        let valued = Record::part(TOKEN, number | VALUE_PRESENT, 0, 1);
+        assert_eq!(token(valued), (0, 0));
+    }
+    for number in [169, 184, 194, 254, 256, 32767] {
+        assert_eq!(token(Record::flagged(TOKEN, number, 0)), (4, 1));
+    }
+    assert_eq!(token(Record::part(TOKEN, 60, 0, 1)), (4, 1));
+    assert_eq!(token(Record::part(TOKEN, 60, 1, 0)), (4, 1));
+}
+
+#[test]
+fn refusal_4_for_numbers() {
+    let dimensions = |number| {
+        let name = Record::new(TEXT, 0);
+        let none = Record::new(NONE, 0);
+        of_records(&[
+            Record::new(107, 3),
+            name,
+            none,
+            Record::number(NUMBER, number),
+        ])
+    };
+    assert_eq!(dimensions(0), (0, 0));
+    assert_eq!(dimensions(255), (0, 0));
+    for number in [-1, 256, 1 << 32, i64::MIN, i64::MAX] {
+        assert_eq!(dimensions(number), (4, 3));
+    }
+    let mut sequence = vec![Record::new(62, 5), Record::new(RUN, 0)];
+    sequence.extend([Record::number(NUMBER, i64::MIN); 4]);
+    assert_eq!(of_records(&sequence), (0, 0));
+}
+
+#[test]
+fn refusal_5() {
+    let part = |start, length| {
+        let mut case = drop_type("a\u{20AC}".as_bytes());
+        case.edit(2, |record| (record.start, record.length) = (start, length));
+        answer(&case)
+    };
+    for (start, length) in [(0, 0), (0, 1), (1, 3), (1, 0), (4, 0), (0, 4)] {
+        assert_eq!(part(start, length), (0, 0));
+    }
+    for (start, length) in [(2, 0), (3, 1), (0, 2), (0, 5), (5, 0), (u32::MAX, 1)] {
+        assert_eq!(part(start, length), (5, 2));
+    }
+}
+
+#[test]
+fn refusal_7() {
+    assert_eq!(of_records(&[Record::new(RUN, 1)]), (7, 1));
+    assert_eq!(of_records(&[Record::new(LIST, 65535)]), (7, 1));
+    let over = [Record::new(RUN, 0), Record::new(RUN, 0)];
+    assert_eq!(of_records(&over), (7, 1));
+    let mut broken = drop_type(b"geo");
+    broken.tree.extend([0xFF; 2 * SIZE]);
+    assert_eq!(answer(&broken), (7, 3));
+}
+
+#[test]
+fn a_run_stands_for_any_kind() {
+    let run = Record::new(RUN, 0);
+    assert_eq!(of_records(&[Record::new(56, 1), run]), (0, 0));
+    let none = Record::new(NONE, 0);
+    let list = Record::new(LIST, 0);
+    let insert = [Record::new(49, 6), run, run, run, list, run, list];
+    assert_eq!(of_records(&insert), (0, 0));
+    let replace = [
+        Record::new(49, 6),
+        none,
+        Record::new(119, 0),
+        run,
+        list,
+        run,
+        list,
+    ];
+    assert_eq!(of_records(&replace), (0, 0));
+    assert_eq!(of_records(&[Record::new(61, 1), run]), (4, 1));
+}
