@@ -45,7 +45,7 @@ hasPart r = eqb (r .kind) TEXT || (eqb (r .kind) TOKEN && leb 0x8000 (r .flags))
 unfoldable pub fieldsFit : Record → Bool
 fieldsFit r = hasPart r || (eqb (r .kind) NUMBER || (eqb (r .start) 0 && eqb (r .len) 0))
 
--- a NUMBER where only 0 to 255 may stand
+-- a NUMBER where only 0 to 255 may stand: its low half is below 256 and its high half zero
 unfoldable pub rangeFits : Class → Record → Bool
 rangeFits small r = ltb (r .start) 256 && eqb (r .len) 0
 rangeFits (one ks) r = true

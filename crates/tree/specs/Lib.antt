@@ -3,3 +3,4 @@ pub mod Walk
 pub mod Laws
 pub mod Steps
 pub mod Whole
+pub mod Examples

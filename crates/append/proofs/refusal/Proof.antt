@@ -10,19 +10,68 @@ returns : tie.Need-returns
 returns c = malformed _ _ _ _ (c .if1 .taken)
 
 returns-2 : tie.Need-returns-2
-returns-2 c = unknown _ _ _ _ _ (c .before .before .before .if1 .left) (c .before .known .ensures ∙ ap known (c .before .before .number-of .ensures)) (c .if2 .taken)
+returns-2 c =
+    let at-if1 = c .before .before .before .if1 in
+    let at-known = c .before .known in
+    let at-number-of = c .before .before .number-of in
+    let at-if2 = c .if2 in
+    unknown _ _ _ _ _ (at-if1 .left) (at-known .ensures ∙ ap known (at-number-of .ensures))
+    (at-if2 .taken)
 
 returns-3 : tie.Need-returns-3
-returns-3 c = stray _ _ _ _ _ (c .before .before .before .before .before .if1 .left) (c .before .before .before .known .ensures ∙ ap known (c .before .before .before .before .number-of .ensures)) _ (c .before .before .if2 .left) (c .before .present .ensures) (c .if3 .taken)
+returns-3 c =
+    let at-if1 = c .before .before .before .before .before .if1 in
+    let at-known = c .before .before .before .known in
+    let at-number-of = c .before .before .before .before .number-of in
+    let at-if2 = c .before .before .if2 in
+    let at-present = c .before .present in
+    let at-if3 = c .if3 in
+    stray _ _ _ _ _ (at-if1 .left) (at-known .ensures ∙ ap known (at-number-of .ensures)) _
+    (at-if2 .left) (at-present .ensures) (at-if3 .taken)
 
 returns-4 : tie.Need-returns-4
-returns-4 c = too-long _ _ _ _ _ (c .before .before .before .before .before .before .if1 .left) (c .before .before .before .before .known .ensures ∙ ap known (c .before .before .before .before .before .number-of .ensures)) _ (c .before .before .before .if2 .left) (c .before .before .present .ensures) (c .before .if3 .left) (c .if4 .taken)
+returns-4 c =
+    let at-if1 = c .before .before .before .before .before .before .if1 in
+    let at-known = c .before .before .before .before .known in
+    let at-number-of = c .before .before .before .before .before .number-of in
+    let at-if2 = c .before .before .before .if2 in
+    let at-present = c .before .before .present in
+    let at-if3 = c .before .if3 in
+    let at-if4 = c .if4 in
+    too-long _ _ _ _ _ (at-if1 .left) (at-known .ensures ∙ ap known (at-number-of .ensures)) _
+    (at-if2 .left) (at-present .ensures) (at-if3 .left) (at-if4 .taken)
 
 returns-5 : tie.Need-returns-5
-returns-5 c = ill _ _ _ _ _ (c .before .before .before .before .before .before .before .before .before .if1 .left) (c .before .before .before .before .before .before .before .known .ensures ∙ ap known (c .before .before .before .before .before .before .before .before .number-of .ensures)) _ (c .before .before .before .before .before .before .if2 .left) (c .before .before .before .before .before .present .ensures) (c .before .before .before .before .if3 .left) (c .before .before .check .result) _ (c .before .before .before .if4 .left) (c .before .before .check .ensures) (c .before .number .ensures) (c .if5 .taken)
+returns-5 c =
+    let at-if1 = c .before .before .before .before .before .before .before .before .before .if1 in
+    let at-known = c .before .before .before .before .before .before .before .known in
+    let at-number-of = c .before .before .before .before .before .before .before .before .number-of in
+    let at-if2 = c .before .before .before .before .before .before .if2 in
+    let at-present = c .before .before .before .before .before .present in
+    let at-if3 = c .before .before .before .before .if3 in
+    let at-check = c .before .before .check in
+    let at-if4 = c .before .before .before .if4 in
+    let at-number = c .before .number in
+    let at-if5 = c .if5 in
+    ill _ _ _ _ _ (at-if1 .left) (at-known .ensures ∙ ap known (at-number-of .ensures)) _ (at-if2 .left)
+    (at-present .ensures) (at-if3 .left) (at-check .result) _ (at-if4 .left) (at-check .ensures)
+    (at-number .ensures) (at-if5 .taken)
 
 returns-6 : tie.Need-returns-6
-returns-6 c = fine _ _ _ _ _ (c .before .before .before .before .before .before .before .before .before .if1 .left) (c .before .before .before .before .before .before .before .known .ensures ∙ ap known (c .before .before .before .before .before .before .before .before .number-of .ensures)) _ (c .before .before .before .before .before .before .if2 .left) (c .before .before .before .before .before .present .ensures) (c .before .before .before .before .if3 .left) (c .before .before .check .result) _ (c .before .before .before .if4 .left) (c .before .before .check .ensures) (c .before .number .ensures) (c .if5 .left)
+returns-6 c =
+    let at-if1 = c .before .before .before .before .before .before .before .before .before .if1 in
+    let at-known = c .before .before .before .before .before .before .before .known in
+    let at-number-of = c .before .before .before .before .before .before .before .before .number-of in
+    let at-if2 = c .before .before .before .before .before .before .if2 in
+    let at-present = c .before .before .before .before .before .present in
+    let at-if3 = c .before .before .before .before .if3 in
+    let at-check = c .before .before .check in
+    let at-if4 = c .before .before .before .if4 in
+    let at-number = c .before .number in
+    let at-if5 = c .if5 in
+    fine _ _ _ _ _ (at-if1 .left) (at-known .ensures ∙ ap known (at-number-of .ensures)) _
+    (at-if2 .left) (at-present .ensures) (at-if3 .left) (at-check .result) _ (at-if4 .left)
+    (at-check .ensures) (at-number .ensures) (at-if5 .left)
 
 pub refusal-spec : {M : Type 1} → statement M
 refusal-spec =

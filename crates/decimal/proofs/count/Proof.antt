@@ -16,7 +16,10 @@ abbrev μ-loop : tie.MeasureT-loop
 μ-loop n k₀ rest₀ k rest = rest
 
 add-k : tie.Need-add-k Inv-loop μ-loop
-add-k c = let m = length-below (c .before .before .args .n) 19 (omega arith) in omega (arith, length-some (c .before .loop .rest))
+add-k c =
+    let at-args = c .before .before .args in
+    let m = length-below (at-args .n) 19 (omega arith) in
+    omega (arith, length-some (c .before .loop .rest))
 
 loop-again : tie.Need-loop-again Inv-loop μ-loop
 loop-again c = omega (arith, length-more (c .before .loop .rest) (c .loop-test .taken))

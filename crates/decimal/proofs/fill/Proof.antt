@@ -27,13 +27,21 @@ glyph-requires : tie.Need-glyph-requires Inv-loop μ-loop
 glyph-requires c κs = omega arith
 
 sub-at-2 : tie.Need-sub-at-2 Inv-loop μ-loop
-sub-at-2 c = omega (arith, length-more (c .before .before .loop .rest) (c .before .loop-test .taken), length-some (c .before .before .loop .rest / 10))
+sub-at-2 c =
+    let at-loop = c .before .before .loop in
+    omega
+    (arith, length-more (at-loop .rest) (c .before .loop-test .taken), length-some (at-loop .rest / 10))
 
 loop-again : tie.Need-loop-again Inv-loop μ-loop
-loop-again c = (omega (arith, length-more (c .before .before .loop .rest) (c .before .loop-test .taken), length-some (c .before .before .loop .rest / 10)), omega arith, fill-turn _ _ _ _ _ (c .before .loop-test .taken) (c .before .before .loop .inv .0) (c .glyph .ensures) ∙ c .before .before .loop .inv .2)
+loop-again c =
+    let at-loop = c .before .before .loop in
+    (omega (arith, length-more (at-loop .rest) (c .before .loop-test .taken), length-some (at-loop .rest / 10)), omega arith, fill-turn _ _ _ _ _ (c .before .loop-test .taken) (at-loop .inv .0) (c .glyph .ensures) ∙ at-loop .inv .2)
 
 returns : tie.Need-returns Inv-loop μ-loop
-returns c = fill-last _ _ _ _ _ (c .before .loop-test .left) (c .before .before .loop .inv .0) (c .glyph2 .ensures) ∙ c .before .before .loop .inv .2
+returns c =
+    let at-loop = c .before .before .loop in
+    fill-last _ _ _ _ _ (c .before .loop-test .left) (at-loop .inv .0) (c .glyph2 .ensures) ∙ at-loop
+    .inv .2
 
 pub fill-spec : {M : Type 1} → statement M
 fill-spec =

@@ -17,7 +17,9 @@ returns : tie.Need-returns
 returns c = rw (minus-is _ (c .before .fits .n) (c .if1 .taken)) (below-is _ (c .before .fits .n) (c .if1 .taken))
 
 cast-result-2 : tie.Need-cast-result-2
-cast-result-2 c = rw (above-is _ (c .before .fits .n) (c .if1 .left)) (tt, omega (arith, magnitude-within _ (c .before .fits .n)))
+cast-result-2 c =
+    rw (above-is _ (c .before .fits .n) (c .if1 .left))
+    (tt, omega (arith, magnitude-within _ (c .before .fits .n)))
 
 returns-2 : tie.Need-returns-2
 returns-2 c = rw (above-is _ (c .before .fits .n) (c .if1 .left))

@@ -6,19 +6,45 @@ use Rattle.decimal.proofs.spell.Statement.{statement}
 use Rattle.decimal.proofs.spell.Tie as tie
 
 add-len : tie.Need-add-len
-add-len c = let l = few _ (c .before .before .before .fits .n) _ _ (c .before .before .magnitude .ensures) (c .before .count .ensures) in omega arith
+add-len c =
+    let at-fits = c .before .before .before .fits in
+    let at-magnitude = c .before .before .magnitude in
+    let l = few _ (at-fits .n) _ _ (at-magnitude .ensures) (c .before .count .ensures) in
+    omega arith
 
 fill-requires : tie.Need-fill-requires
-fill-requires c κs = let l = few _ (c .before .before .before .before .fits .n) _ _ (c .before .before .before .magnitude .ensures) (c .before .before .count .ensures) in omega arith
+fill-requires c κs =
+    let at-fits = c .before .before .before .before .fits in
+    let at-magnitude = c .before .before .before .magnitude in
+    let at-count = c .before .before .count in
+    let l = few _ (at-fits .n) _ _ (at-magnitude .ensures) (at-count .ensures) in
+    omega arith
 
 returns : tie.Need-returns
-returns c = spelled-below _ (c .before .before .before .before .before .fits .n) _ _ (c .before .before .before .before .magnitude .ensures) (c .before .before .before .count .ensures) _ (c .before .before .if1 .taken) (c .fill .ensures)
+returns c =
+    let at-fits = c .before .before .before .before .before .fits in
+    let at-magnitude = c .before .before .before .before .magnitude in
+    let at-count = c .before .before .before .count in
+    let at-if1 = c .before .before .if1 in
+    spelled-below _ (at-fits .n) _ _ (at-magnitude .ensures) (at-count .ensures) _ (at-if1 .taken)
+    (c .fill .ensures)
 
 fill-requires-2 : tie.Need-fill-requires-2
-fill-requires-2 c κs = let l = few _ (c .before .before .before .before .fits .n) _ _ (c .before .before .before .magnitude .ensures) (c .before .before .count .ensures) in omega arith
+fill-requires-2 c κs =
+    let at-fits = c .before .before .before .before .fits in
+    let at-magnitude = c .before .before .before .magnitude in
+    let at-count = c .before .before .count in
+    let l = few _ (at-fits .n) _ _ (at-magnitude .ensures) (at-count .ensures) in
+    omega arith
 
 returns-2 : tie.Need-returns-2
-returns-2 c = spelled-above _ (c .before .before .before .before .before .fits .n) _ _ (c .before .before .before .before .magnitude .ensures) (c .before .before .before .count .ensures) _ (c .before .before .if1 .left) (c .fill2 .ensures)
+returns-2 c =
+    let at-fits = c .before .before .before .before .before .fits in
+    let at-magnitude = c .before .before .before .before .magnitude in
+    let at-count = c .before .before .before .count in
+    let at-if1 = c .before .before .if1 in
+    spelled-above _ (at-fits .n) _ _ (at-magnitude .ensures) (at-count .ensures) _ (at-if1 .left)
+    (c .fill2 .ensures)
 
 pub spell-spec : {M : Type 1} → statement M
 spell-spec =

@@ -12,13 +12,23 @@ unpack-requires : tie.Need-unpack-requires
 unpack-requires c κs = well-length _ _ (c .before .before .well-formed .ensures) (c .before .if1 .left)
 
 repack-requires : tie.Need-repack-requires
-repack-requires c κs = well-length _ _ (c .before .before .before .before .before .before .before .before .before .well-formed .ensures) (c .before .before .before .before .before .before .before .before .if1 .left)
+repack-requires c κs =
+    let at-well-formed = c .before .before .before .before .before .before .before .before .before .well-formed in
+    let at-if1 = c .before .before .before .before .before .before .before .before .if1 in
+    well-length _ _ (at-well-formed .ensures) (at-if1 .left)
 
 code-requires-2 : tie.Need-code-requires-2
 code-requires-2 c κs = place-small _ _ _ _ _ _ _ (c .before .before .before .before .before .before .before .step .ensures)
 
 returns-2 : tie.Need-returns-2
-returns-2 c = well _ _ _ _ _ _ _ _ _ _ _ (c .before .before .before .before .before .before .before .before .before .before .before .before .before .well-formed .ensures) (c .before .before .before .before .before .before .before .before .before .before .before .before .if1 .left) (c .before .before .before .before .before .before .before .before .before .before .unpack .ensures) (c .before .before .before .before .before .before .before .before .step .ensures) (c .code2 .ensures) (c .before .before .before .repack .ensures)
+returns-2 c =
+    let at-well-formed = c .before .before .before .before .before .before .before .before .before .before .before .before .before .well-formed in
+    let at-if1 = c .before .before .before .before .before .before .before .before .before .before .before .before .if1 in
+    let at-unpack = c .before .before .before .before .before .before .before .before .before .before .unpack in
+    let at-step = c .before .before .before .before .before .before .before .before .step in
+    let at-repack = c .before .before .before .repack in
+    well _ _ _ _ _ _ _ _ _ _ _ (at-well-formed .ensures) (at-if1 .left) (at-unpack .ensures)
+    (at-step .ensures) (c .code2 .ensures) (at-repack .ensures)
 
 pub kinyandoma-append-spec : {M : Type 1} → statement M
 kinyandoma-append-spec =

@@ -6,7 +6,13 @@ use Rattle.kinyandoma.proofs.pack.Statement.{statement}
 use Rattle.kinyandoma.proofs.pack.Tie as tie
 
 returns : tie.Need-returns
-returns c = copied-over (c .before .before .before .before .before .before .before .args .rec .now) (c .before .before .before .before .before .nine .result) _ (c .before .before .before .before .before .before .before .pre) (rw (c .before .before .before .before .before .nine .ensures) (packed-length _)) (c .before .before .copy .ensures .1) ∙ c .before .before .before .before .before .nine .ensures
+returns c =
+    let at-args = c .before .before .before .before .before .before .before .args in
+    let at-nine = c .before .before .before .before .before .nine in
+    let at-pre = c .before .before .before .before .before .before .before .pre in
+    let at-copy = c .before .before .copy in
+    copied-over (at-args .rec .now) (at-nine .result) _ at-pre (rw (at-nine .ensures) (packed-length _))
+    (at-copy .ensures .1) ∙ at-nine .ensures
 
 pub pack-spec : {M : Type 1} → statement M
 pack-spec =

@@ -5,7 +5,11 @@ use Rattle.kinyandoma.proofs.unpack.Statement.{statement}
 use Rattle.kinyandoma.proofs.unpack.Tie as tie
 
 returns : tie.Need-returns
-returns c = unpacks (c .before .before .before .before .before .before .before .before .before .before .before .before .args .rec .now) _ _ (c .before .before .before .before .before .before .before .before .before .before .before .before .pre) (c .before .before .before .before .before .before .half .ensures .0) (c .before .half2 .ensures .0)
+returns c =
+    let at-args = c .before .before .before .before .before .before .before .before .before .before .before .before .args in
+    let at-pre = c .before .before .before .before .before .before .before .before .before .before .before .before .pre in
+    let at-half = c .before .before .before .before .before .before .half in
+    unpacks (at-args .rec .now) _ _ at-pre (at-half .ensures .0) (c .before .half2 .ensures .0)
 
 pub unpack-spec : {M : Type 1} → statement M
 unpack-spec =

@@ -8,7 +8,11 @@ returns : tie.Need-returns
 returns c = spellingIn-past (c .before .before .before .args .table .now) _ (c .before .if1 .taken)
 
 returns-2 : tie.Need-returns-2
-returns-2 c = spellingIn-row _ _ _ _ _ _ (search needs) (c .before .before .before .byte .ensures .0) (c .before .before .byte2 .ensures .0) (c .before .byte3 .ensures .0) (c .within .ensures)
+returns-2 c =
+    let at-byte = c .before .before .before .byte in
+    let at-byte2 = c .before .before .byte2 in
+    spellingIn-row _ _ _ _ _ _ (search needs) (at-byte .ensures .0) (at-byte2 .ensures .0)
+    (c .before .byte3 .ensures .0) (c .within .ensures)
 
 pub of-spec : {M : Type 1} → statement M
 of-spec =

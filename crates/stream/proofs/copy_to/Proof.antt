@@ -5,7 +5,11 @@ use Rattle.stream.proofs.copy_to.Statement.{statement}
 use Rattle.stream.proofs.copy_to.Tie as tie
 
 returns : tie.Need-returns
-returns c = sets-copied (c .before .before .before .before .before .before .args .out .now) (c .before .before .before .before .before .before .args .v .now) _ (c .before .before .before .before .before .before .args .at) (c .before .before .before .before .before .before .pre) (c .before .before .copy .ensures .1)
+returns c =
+    let at-args = c .before .before .before .before .before .before .args in
+    let at-pre = c .before .before .before .before .before .before .pre in
+    let at-copy = c .before .before .copy in
+    sets-copied (at-args .out .now) (at-args .v .now) _ (at-args .at) at-pre (at-copy .ensures .1)
 
 pub copy-to-spec : {M : Type 1} → statement M
 copy-to-spec =

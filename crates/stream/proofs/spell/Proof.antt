@@ -10,7 +10,10 @@ returns c = spell-none _ _ (c .before .before .before .args .word .now) (search 
 
 returns-2 : tie.Need-returns-2
 unfolding mark
-returns-2 c = spell-one _ _ _ _ _ (c .before .before .before .before .before .if1 .left) (c .before .before .before .put .ensures) (c .opens .ensures)
+returns-2 c =
+    let at-if1 = c .before .before .before .before .before .if1 in
+    let at-put = c .before .before .before .put in
+    spell-one _ _ _ _ _ (at-if1 .left) (at-put .ensures) (c .opens .ensures)
 
 pub spell-spec : {M : Type 1} → statement M
 spell-spec = tie.close (tie.spec (λ c κs. search needs) (λ c κs. search needs) returns (λ c. search needs) returns-2)

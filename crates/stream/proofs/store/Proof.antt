@@ -10,16 +10,27 @@ use Rattle.stream.proofs.store.Statement.{statement}
 use Rattle.stream.proofs.store.Tie as tie
 
 returns : tie.Need-returns
-returns c = sym (sets-past (c .before .before .before .args .v .now) (c .before .before .before .args .out .now) (c .before .before .before .args .at) (c .if1 .taken))
+returns c =
+    let at-args = c .before .before .before .args in
+    sym (sets-past (at-args .v .now) (at-args .out .now) (at-args .at) (c .if1 .taken))
 
 slice-aggregate-copy-to : tie.Need-slice-aggregate-copy-to
-slice-aggregate-copy-to c = sym (length-take-le _ (c .before .before .before .before .before .before .args .v .now) (search needs))
+slice-aggregate-copy-to c =
+    let at-args = c .before .before .before .before .before .before .args in
+    sym (length-take-le _ (at-args .v .now) (search needs))
 
 copy-to-requires-2 : tie.Need-copy-to-requires-2
-copy-to-requires-2 c κs = rw (length-take-le (length (c .before .before .before .before .before .before .args .out .now) - c .before .before .before .before .before .before .args .at) (c .before .before .before .before .before .before .args .v .now) (search needs)) (omega arith)
+copy-to-requires-2 c κs =
+    let at-args = c .before .before .before .before .before .before .args in
+    rw (length-take-le (length (at-args .out .now) - at-args .at) (at-args .v .now) (search needs))
+    (omega arith)
 
 returns-3 : tie.Need-returns-3
-returns-3 c = c .before .before .copy-to2 .ensures ∙ sym (sets-part (c .before .before .before .before .before .before .before .before .before .args .v .now) (c .before .before .before .before .before .before .before .before .before .args .out .now) (c .before .before .before .before .before .before .before .before .before .args .at) (length (c .before .before .before .before .before .before .before .before .before .args .out .now) - c .before .before .before .before .before .before .before .before .before .args .at) (omega arith))
+returns-3 c =
+    let at-copy-to2 = c .before .before .copy-to2 in
+    let at-args = c .before .before .before .before .before .before .before .before .before .args in
+    at-copy-to2 .ensures ∙ sym
+    (sets-part (at-args .v .now) (at-args .out .now) (at-args .at) (length (at-args .out .now) - at-args .at) (omega arith))
 
 pub store-spec : {M : Type 1} → statement M
 store-spec =

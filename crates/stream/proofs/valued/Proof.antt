@@ -7,7 +7,10 @@ use Rattle.stream.proofs.valued.Tie as tie
 
 returns : tie.Need-returns
 unfolding mark
-returns c = value-one _ _ _ _ _ (c .before .before .before .before .before .if1 .taken) (c .before .before .before .put .ensures) (c .all-blank .ensures)
+returns c =
+    let at-if1 = c .before .before .before .before .before .if1 in
+    let at-put = c .before .before .before .put in
+    value-one _ _ _ _ _ (at-if1 .taken) (at-put .ensures) (c .all-blank .ensures)
 
 returns-2 : tie.Need-returns-2
 returns-2 c = value-none _ _ _ (search needs) (c .if1 .left)

@@ -78,16 +78,36 @@ check-at-met : {M : Type 1} (t : ℕ) → check-at-lts.Closed (check-at-calls t)
 check-at-met t =
     check-at-lts.spec (check-at-calls t) (check-at-at t) check-at.Post
     (λ c κs. search needs)  -- count-requires
-    (λ c. past (c .before .before .before .before .before .args .tree .now) (c .before .before .before .before .before .args .text .now) _ _ (search needs))  -- returns
+    (λ c.  -- returns
+    let at-args = c .before .before .before .before .before .args in
+    past (at-args .tree .now) (at-args .text .now) _ _ (search needs))
     (λ c κs. search needs)  -- read-requires
-    (λ c κs. (c .before .before .before .before .before .before .pre .1 .0, c .before .before .before .before .before .before .pre .1 .1 .0))  -- first-fault-requires
+    (λ c κs.  -- first-fault-requires
+    let at-pre = c .before .before .before .before .before .before .pre in
+    (at-pre .1 .0, at-pre .1 .1 .0))
     (λ c. search needs)  -- enum-known-fault
     (λ c. search needs)  -- enum-told
     (λ c. search needs)  -- add-check-below
     (λ c. fine-left _ _ _ _ _ _ (c .before .before .first-fault .ensures) (c .enum-told .given .1))  -- sub-check-below
-    (λ c κs. let l = fine-left _ _ _ _ _ _ (c .before .before .first-fault .ensures) (c .enum-told .given .1) in (omega arith, (c .before .before .before .before .before .before .before .before .before .pre .1 .0, (c .before .before .before .before .before .before .before .before .before .pre .1 .1 .0, (omega arith, (omega arith, fine-kind _ _ _ _ _ _ (c .before .before .first-fault .ensures) (c .enum-told .given .1) (c .before .before .before .before .before .before .before .before .before .pre .1 .1 .0)))))))  -- check-below-requires
-    (λ c. faulted (c .before .before .before .before .before .before .before .before .before .before .args .tree .now) (c .before .before .before .before .before .before .before .before .before .before .args .text .now) _ _ _ (search needs) (rw (c .before .before .before .before .read .ensures) at (c .before .before .before .first-fault .ensures)) _ (c .before .fault .given .1))  -- returns-2
-    (λ c. down (c .before .before .before .before .before .before .before .before .before .before .args .tree .now) (c .before .before .before .before .before .before .before .before .before .before .args .text .now) _ _ _ _ _ _ (search needs) (c .before .before .before .before .read .ensures) (c .before .before .before .first-fault .ensures) (c .before .enum-told .given .1) (c .before .before .before .before .before .before .before .before .before .before .pre .1 .1 .1) (c .check-below .ensures))  -- returns-3
+    (λ c κs.  -- check-below-requires
+    let at-first-fault = c .before .before .first-fault in
+    let at-pre = c .before .before .before .before .before .before .before .before .before .pre in
+    let l = fine-left _ _ _ _ _ _ (at-first-fault .ensures) (c .enum-told .given .1) in
+    (omega arith, (at-pre .1 .0, (at-pre .1 .1 .0, (omega arith, (omega arith, fine-kind _ _ _ _ _ _ (at-first-fault .ensures) (c .enum-told .given .1) (at-pre .1 .1 .0)))))))
+    (λ c.  -- returns-2
+    let at-args = c .before .before .before .before .before .before .before .before .before .before .args in
+    let at-read = c .before .before .before .before .read in
+    let at-first-fault = c .before .before .before .first-fault in
+    faulted (at-args .tree .now) (at-args .text .now) _ _ _ (search needs)
+    (rw (at-read .ensures) at (at-first-fault .ensures)) _ (c .before .fault .given .1))
+    (λ c.  -- returns-3
+    let at-args = c .before .before .before .before .before .before .before .before .before .before .args in
+    let at-read = c .before .before .before .before .read in
+    let at-first-fault = c .before .before .before .first-fault in
+    let at-pre = c .before .before .before .before .before .before .before .before .before .before .pre in
+    down (at-args .tree .now) (at-args .text .now) _ _ _ _ _ _ (search needs) (at-read .ensures)
+    (at-first-fault .ensures) (c .before .enum-told .given .1) (at-pre .1 .1 .1)
+    (c .check-below .ensures))
 
 abbrev check-below-calls : ℕ → check-below-lts.Claims
 check-below-calls t = (element-reads.Asked, element-reads.Learnt, check-row-below t, check-row.Post, check-slots-below t, check-slots.Post)
@@ -96,15 +116,34 @@ check-below-met : {M : Type 1} (t : ℕ) → check-below-lts.Closed (check-below
 check-below-met t =
     check-below-lts.spec (check-below-calls t) (check-below-at t) check-below.Post
     (λ c κs. search needs)  -- element-requires
-    (λ c. omega (arith, element-small (c .before .before .before .before .before .before .args .table .now) _ _ (c .before .before .before .before .before .before .pre .1 .0) (c .before .before .before .before .before .before .pre .1 .1 .0) (c .element .ensures)))  -- cast-check-row
+    (λ c.  -- cast-check-row
+    let at-args = c .before .before .before .before .before .before .args in
+    let at-pre = c .before .before .before .before .before .before .pre in
+    omega
+    (arith, element-small (at-args .table .now) _ _ (at-pre .1 .0) (at-pre .1 .1 .0) (c .element .ensures)))
     (λ c. search needs)  -- cast-check-row-2
-    (λ c κs. (omega arith, (c .before .before .before .before .before .before .before .pre .1 .0, (element-small (c .before .before .before .before .before .before .before .args .table .now) _ _ (c .before .before .before .before .before .before .before .pre .1 .0) (c .before .before .before .before .before .before .before .pre .1 .1 .0) (c .before .element .ensures), (c .before .before .before .before .before .before .before .pre .1 .1 .1 .0, (c .before .before .before .before .before .before .before .pre .1 .1 .1 .1 .0, omega arith))))))  -- check-row-requires
-    (λ c. list-below (c .before .before .before .before .before .before .before .before .args .table .now) _ _ (c .before .before .before .before .before .before .before .before .pre .1 .0) (c .before .before .before .before .before .before .before .before .pre .1 .1 .0) (c .before .before .element .ensures) _ _ _ _ _ _ (c .before .before .before .if1 .taken) (c .check-row .ensures))  -- returns
+    (λ c κs.  -- check-row-requires
+    let at-pre = c .before .before .before .before .before .before .before .pre in
+    let at-args = c .before .before .before .before .before .before .before .args in
+    (omega arith, (at-pre .1 .0, (element-small (at-args .table .now) _ _ (at-pre .1 .0) (at-pre .1 .1 .0) (c .before .element .ensures), (at-pre .1 .1 .1 .0, (at-pre .1 .1 .1 .1 .0, omega arith))))))
+    (λ c.  -- returns
+    let at-args = c .before .before .before .before .before .before .before .before .args in
+    let at-pre = c .before .before .before .before .before .before .before .before .pre in
+    let at-element = c .before .before .element in
+    let at-if1 = c .before .before .before .if1 in
+    list-below (at-args .table .now) _ _ (at-pre .1 .0) (at-pre .1 .1 .0) (at-element .ensures) _ _ _ _
+    _ _ (at-if1 .taken) (c .check-row .ensures))
     (λ c. search needs)  -- cast-check-row-3
-    (λ c κs. (omega arith, (c .before .before .before .before .before .before .before .before .pre .1 .0, (omega arith, (c .before .before .before .before .before .before .before .before .pre .1 .1 .1 .0, (c .before .before .before .before .before .before .before .before .pre .1 .1 .1 .1 .0, omega arith))))))  -- check-row-requires-2
+    (λ c κs.  -- check-row-requires-2
+    let at-pre = c .before .before .before .before .before .before .before .before .pre in
+    (omega arith, (at-pre .1 .0, (omega arith, (at-pre .1 .1 .1 .0, (at-pre .1 .1 .1 .1 .0, omega arith))))))
     (λ c. run-below _ _ _ _ _ _ _ (c .before .before .if2 .taken) (c .check-row2 .ensures))  -- returns-2
-    (λ c κs. (omega arith, (c .before .before .before .before .before .before .before .pre .1 .0, (c .before .before .before .before .before .before .before .pre .1 .1 .1 .1 .1, (c .before .before .before .before .before .before .before .pre .1 .1 .1 .0, c .before .before .before .before .before .before .before .pre .1 .1 .1 .1 .0)))))  -- check-slots-requires
-    (λ c. slots-below _ _ _ _ _ _ _ (c .before .before .before .if1 .left) (c .before .if2 .left) (c .check-slots .ensures))  -- returns-3
+    (λ c κs.  -- check-slots-requires
+    let at-pre = c .before .before .before .before .before .before .before .pre in
+    (omega arith, (at-pre .1 .0, (at-pre .1 .1 .1 .1 .1, (at-pre .1 .1 .1 .0, at-pre .1 .1 .1 .1 .0)))))
+    (λ c.  -- returns-3
+    let at-if1 = c .before .before .before .if1 in
+    slots-below _ _ _ _ _ _ _ (at-if1 .left) (c .before .if2 .left) (c .check-slots .ensures))
 
 abbrev check-row-calls : ℕ → check-row-lts.Claims
 check-row-calls t = (check-at-below t, check-at.Post, check-row-below t, check-row.Post)
@@ -112,14 +151,30 @@ check-row-calls t = (check-at-below t, check-at.Post, check-row-below t, check-r
 check-row-met : {M : Type 1} (t : ℕ) → check-row-lts.Closed (check-row-calls t) (check-row-at t) check-row.Post M
 check-row-met t =
     check-row-lts.spec (check-row-calls t) (check-row-at t) check-row.Post
-    (λ c. row-none (c .before .before .before .before .args .tree .now) (c .before .before .before .before .args .text .now) _ _ _ _ (c .if1 .taken) (c .before .before .before .before .pre .1 .1 .1 .1 .0))  -- returns
-    (λ c κs. (omega arith, (c .before .before .before .before .pre .1 .0, (c .before .before .before .before .pre .1 .1 .0, omega arith))))  -- check-at-requires
+    (λ c.  -- returns
+    let at-args = c .before .before .before .before .args in
+    let at-pre = c .before .before .before .before .pre in
+    row-none (at-args .tree .now) (at-args .text .now) _ _ _ _ (c .if1 .taken) (at-pre .1 .1 .1 .1 .0))
+    (λ c κs.  -- check-at-requires
+    let at-pre = c .before .before .before .before .pre in
+    (omega arith, (at-pre .1 .0, (at-pre .1 .1 .0, omega arith))))
     (λ c. search needs)  -- enum-known-one
     (λ c. search needs)  -- sub-check-row
-    (λ c κs. (omega arith, (c .before .before .before .before .before .before .before .before .pre .1 .0, (c .before .before .before .before .before .before .before .before .pre .1 .1 .0, (c .before .before .before .before .before .before .before .before .pre .1 .1 .1 .0, (next-within _ _ _ _ _ _ (c .before .before .before .check-at .ensures) (c .before .one .given .1), omega arith))))))  -- check-row-requires
+    (λ c κs.  -- check-row-requires
+    let at-pre = c .before .before .before .before .before .before .before .before .pre in
+    let at-check-at = c .before .before .before .check-at in
+    (omega arith, (at-pre .1 .0, (at-pre .1 .1 .0, (at-pre .1 .1 .1 .0, (next-within _ _ _ _ _ _ (at-check-at .ensures) (c .before .one .given .1), omega arith))))))
     (λ c. search needs)  -- enum-known-one-2
-    (λ c. row-more _ _ _ _ _ _ _ _ _ (c .before .before .before .before .before .if1 .left) (c .before .before .before .before .check-at .ensures) (c .before .before .one .given .1) (c .check-row .ensures))  -- returns-2
-    (λ c. row-stops _ _ _ _ _ _ _ _ (c .before .before .before .before .if1 .left) (c .before .before .before .check-at .ensures) (c .before .one2 .given .1))  -- returns-3
+    (λ c.  -- returns-2
+    let at-if1 = c .before .before .before .before .before .if1 in
+    let at-check-at = c .before .before .before .before .check-at in
+    let at-one = c .before .before .one in
+    row-more _ _ _ _ _ _ _ _ _ (at-if1 .left) (at-check-at .ensures) (at-one .given .1)
+    (c .check-row .ensures))
+    (λ c.  -- returns-3
+    let at-if1 = c .before .before .before .before .if1 in
+    let at-check-at = c .before .before .before .check-at in
+    row-stops _ _ _ _ _ _ _ _ (at-if1 .left) (at-check-at .ensures) (c .before .one2 .given .1))
 
 abbrev check-slots-calls : ℕ → check-slots-lts.Claims
 check-slots-calls t = (slots-reads.Asked, slots-reads.Learnt, slot-reads.Asked, slot-reads.Learnt, check-at-below t, check-at.Post, check-slots-below t, check-slots.Post)
@@ -128,16 +183,56 @@ check-slots-met : {M : Type 1} (t : ℕ) → check-slots-lts.Closed (check-slots
 check-slots-met t =
     check-slots-lts.spec (check-slots-calls t) (check-slots-at t) check-slots.Post
     (λ c κs. search needs)  -- slots-requires
-    (λ c. slots-none (c .before .before .before .before .before .args .table .now) (c .before .before .before .before .before .args .tree .now) (c .before .before .before .before .before .args .text .now) _ _ _ _ (c .before .before .before .before .before .pre .1 .0) (c .before .before .before .before .before .pre .1 .1 .0) _ (c .before .slots .ensures) (c .if1 .taken) (c .before .before .before .before .before .pre .1 .1 .1 .1))  -- returns
+    (λ c.  -- returns
+    let at-args = c .before .before .before .before .before .args in
+    let at-pre = c .before .before .before .before .before .pre in
+    slots-none (at-args .table .now) (at-args .tree .now) (at-args .text .now) _ _ _ _ (at-pre .1 .0)
+    (at-pre .1 .1 .0) _ (c .before .slots .ensures) (c .if1 .taken) (at-pre .1 .1 .1 .1))
     (λ c κs. search needs)  -- slot-requires
-    (λ c. omega (arith, slot-small (c .before .before .before .before .before .before .args .table .now) (c .before .before .before .before .before .before .args .tree .now) (c .before .before .before .before .before .before .args .text .now) 0 0 _ _ (c .before .before .before .before .before .before .pre .1 .0) (c .before .before .before .before .before .before .pre .1 .1 .0) _ (c .before .before .slots .ensures) _ (c .slot .ensures) (search needs)))  -- cast-check-at
-    (λ c κs. (omega arith, (c .before .before .before .before .before .before .pre .1 .0, (slot-small (c .before .before .before .before .before .before .args .table .now) (c .before .before .before .before .before .before .args .tree .now) (c .before .before .before .before .before .before .args .text .now) 0 0 _ _ (c .before .before .before .before .before .before .pre .1 .0) (c .before .before .before .before .before .before .pre .1 .1 .0) _ (c .before .before .slots .ensures) _ (c .slot .ensures) (search needs), omega arith))))  -- check-at-requires
+    (λ c.  -- cast-check-at
+    let at-args = c .before .before .before .before .before .before .args in
+    let at-pre = c .before .before .before .before .before .before .pre in
+    let at-slots = c .before .before .slots in
+    omega
+    (arith, slot-small (at-args .table .now) (at-args .tree .now) (at-args .text .now) 0 0 _ _ (at-pre .1 .0) (at-pre .1 .1 .0) _ (at-slots .ensures) _ (c .slot .ensures) (search needs)))
+    (λ c κs.  -- check-at-requires
+    let at-pre = c .before .before .before .before .before .before .pre in
+    let at-args = c .before .before .before .before .before .before .args in
+    let at-slots = c .before .before .slots in
+    (omega arith, (at-pre .1 .0, (slot-small (at-args .table .now) (at-args .tree .now) (at-args .text .now) 0 0 _ _ (at-pre .1 .0) (at-pre .1 .1 .0) _ (at-slots .ensures) _ (c .slot .ensures) (search needs), omega arith))))
     (λ c. search needs)  -- enum-known-one
-    (λ c. omega (arith, slot-next (c .before .before .before .before .before .before .before .before .before .before .args .table .now) (c .before .before .before .before .before .before .before .before .before .before .args .tree .now) (c .before .before .before .before .before .before .before .before .before .before .args .text .now) 0 0 _ _ (c .before .before .before .before .before .before .before .before .before .before .pre .1 .0) (c .before .before .before .before .before .before .before .before .before .before .pre .1 .1 .0) _ (c .before .before .before .before .before .before .slots .ensures) _ (c .before .before .before .before .slot .ensures) (search needs)))  -- add-check-slots
-    (λ c κs. (omega arith, (c .before .before .before .before .before .before .before .before .before .before .pre .1 .0, (c .before .before .before .before .before .before .before .before .before .before .pre .1 .1 .0, (c .before .before .before .before .before .before .before .before .before .before .pre .1 .1 .1 .0, next-within _ _ _ _ _ _ (c .before .before .before .check-at .ensures) (c .before .one .given .1))))))  -- check-slots-requires
+    (λ c.  -- add-check-slots
+    let at-args = c .before .before .before .before .before .before .before .before .before .before .args in
+    let at-pre = c .before .before .before .before .before .before .before .before .before .before .pre in
+    let at-slots = c .before .before .before .before .before .before .slots in
+    let at-slot = c .before .before .before .before .slot in
+    omega
+    (arith, slot-next (at-args .table .now) (at-args .tree .now) (at-args .text .now) 0 0 _ _ (at-pre .1 .0) (at-pre .1 .1 .0) _ (at-slots .ensures) _ (at-slot .ensures) (search needs)))
+    (λ c κs.  -- check-slots-requires
+    let at-pre = c .before .before .before .before .before .before .before .before .before .before .pre in
+    let at-check-at = c .before .before .before .check-at in
+    (omega arith, (at-pre .1 .0, (at-pre .1 .1 .0, (at-pre .1 .1 .1 .0, next-within _ _ _ _ _ _ (at-check-at .ensures) (c .before .one .given .1))))))
     (λ c. search needs)  -- enum-known-one-2
-    (λ c. slots-more (c .before .before .before .before .before .before .before .before .before .before .before .args .table .now) _ _ _ _ _ _ (c .before .before .before .before .before .before .before .before .before .before .before .pre .1 .0) (c .before .before .before .before .before .before .before .before .before .before .before .pre .1 .1 .0) _ (c .before .before .before .before .before .before .before .slots .ensures) _ (c .before .before .before .before .before .slot .ensures) (c .before .before .before .before .before .before .if1 .left) _ _ _ (c .before .before .before .before .check-at .ensures) (c .before .before .one .given .1) (c .check-slots .ensures))  -- returns-2
-    (λ c. slots-stop (c .before .before .before .before .before .before .before .before .before .before .args .table .now) _ _ _ _ _ _ (c .before .before .before .before .before .before .before .before .before .before .pre .1 .0) (c .before .before .before .before .before .before .before .before .before .before .pre .1 .1 .0) _ (c .before .before .before .before .before .before .slots .ensures) _ (c .before .before .before .before .slot .ensures) (c .before .before .before .before .before .if1 .left) _ _ (c .before .before .before .check-at .ensures) (c .before .one2 .given .1))  -- returns-3
+    (λ c.  -- returns-2
+    let at-args = c .before .before .before .before .before .before .before .before .before .before .before .args in
+    let at-pre = c .before .before .before .before .before .before .before .before .before .before .before .pre in
+    let at-slots = c .before .before .before .before .before .before .before .slots in
+    let at-slot = c .before .before .before .before .before .slot in
+    let at-if1 = c .before .before .before .before .before .before .if1 in
+    let at-check-at = c .before .before .before .before .check-at in
+    let at-one = c .before .before .one in
+    slots-more (at-args .table .now) _ _ _ _ _ _ (at-pre .1 .0) (at-pre .1 .1 .0) _ (at-slots .ensures)
+    _ (at-slot .ensures) (at-if1 .left) _ _ _ (at-check-at .ensures) (at-one .given .1)
+    (c .check-slots .ensures))
+    (λ c.  -- returns-3
+    let at-args = c .before .before .before .before .before .before .before .before .before .before .args in
+    let at-pre = c .before .before .before .before .before .before .before .before .before .before .pre in
+    let at-slots = c .before .before .before .before .before .before .slots in
+    let at-slot = c .before .before .before .before .slot in
+    let at-if1 = c .before .before .before .before .before .if1 in
+    let at-check-at = c .before .before .before .check-at in
+    slots-stop (at-args .table .now) _ _ _ _ _ _ (at-pre .1 .0) (at-pre .1 .1 .0) _ (at-slots .ensures)
+    _ (at-slot .ensures) (at-if1 .left) _ _ (at-check-at .ensures) (c .before .one2 .given .1))
 
 pub +check-at+check-below+check-row+check-slots-spec : {M : Type 1} → statement M
 +check-at+check-below+check-row+check-slots-spec = close μ-check-at μ-check-below μ-check-row μ-check-slots check-at-met check-below-met check-row-met check-slots-met

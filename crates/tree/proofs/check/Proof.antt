@@ -11,10 +11,23 @@ returns-2 : tie.Need-returns-2
 returns-2 c = too-long _ _ _ (c .before .before .malformed .ensures) (c .before .if1 .left) (c .if2 .taken)
 
 returns-3 : tie.Need-returns-3
-returns-3 c = ill _ _ _ (c .before .before .before .before .before .malformed .ensures) (c .before .before .before .before .if1 .left) (c .before .before .before .if2 .left) (c .before .before .check .result) _ (c .before .before .check .ensures) (c .before .number .ensures) (c .if3 .taken)
+returns-3 c =
+    let at-malformed = c .before .before .before .before .before .malformed in
+    let at-if1 = c .before .before .before .before .if1 in
+    let at-if2 = c .before .before .before .if2 in
+    let at-check = c .before .before .check in
+    ill _ _ _ (at-malformed .ensures) (at-if1 .left) (at-if2 .left) (at-check .result) _
+    (at-check .ensures) (c .before .number .ensures) (c .if3 .taken)
 
 returns-4 : tie.Need-returns-4
-returns-4 c = looked-at _ _ _ (c .before .before .before .before .before .before .malformed .ensures) (c .before .before .before .before .before .if1 .left) (c .before .before .before .before .if2 .left) (c .before .before .before .check .result) _ (c .before .before .before .check .ensures) (c .before .before .number .ensures) _ (c .before .if3 .left) (c .check-records .ensures)
+returns-4 c =
+    let at-malformed = c .before .before .before .before .before .before .malformed in
+    let at-if1 = c .before .before .before .before .before .if1 in
+    let at-if2 = c .before .before .before .before .if2 in
+    let at-check = c .before .before .before .check in
+    let at-number = c .before .before .number in
+    looked-at _ _ _ (at-malformed .ensures) (at-if1 .left) (at-if2 .left) (at-check .result) _
+    (at-check .ensures) (at-number .ensures) _ (c .before .if3 .left) (c .check-records .ensures)
 
 pub check-spec : {M : Type 1} → statement M
 check-spec =

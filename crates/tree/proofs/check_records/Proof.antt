@@ -10,13 +10,27 @@ check-at-requires : tie.Need-check-at-requires
 check-at-requires c κs = (c .before .table .ensures, (omega arith, omega arith))
 
 returns : tie.Need-returns
-returns c = all-filled (c .before .before .before .before .before .before .before .before .before .before .args .tree .now) (c .before .before .before .before .before .before .before .before .before .before .args .text .now) _ (c .before .before .before .before .before .check-at .ensures) _ (c .before .before .before .walk .given .1) (c .if1 .taken ∙ c .before .count .ensures)
+returns c =
+    let at-args = c .before .before .before .before .before .before .before .before .before .before .args in
+    let at-check-at = c .before .before .before .before .before .check-at in
+    let at-walk = c .before .before .before .walk in
+    all-filled (at-args .tree .now) (at-args .text .now) _ (at-check-at .ensures) _ (at-walk .given .1)
+    (c .if1 .taken ∙ c .before .count .ensures)
 
 returns-2 : tie.Need-returns-2
-returns-2 c = left-over (c .before .before .before .before .before .before .before .before .before .before .args .tree .now) (c .before .before .before .before .before .before .before .before .before .before .args .text .now) _ (c .before .before .before .before .before .check-at .ensures) _ (c .before .before .before .walk .given .1) (λ e. c .if1 .left (e ∙ sym (c .before .count .ensures)))
+returns-2 c =
+    let at-args = c .before .before .before .before .before .before .before .before .before .before .args in
+    let at-check-at = c .before .before .before .before .before .check-at in
+    let at-walk = c .before .before .before .walk in
+    left-over (at-args .tree .now) (at-args .text .now) _ (at-check-at .ensures) _ (at-walk .given .1)
+    (λ e. c .if1 .left (e ∙ sym (c .before .count .ensures)))
 
 returns-3 : tie.Need-returns-3
-returns-3 c = all-refused (c .before .before .before .before .before .before .before .before .args .tree .now) (c .before .before .before .before .before .before .before .before .args .text .now) _ (c .before .before .before .check-at .ensures) _ (c .before .walk2 .given .1)
+returns-3 c =
+    let at-args = c .before .before .before .before .before .before .before .before .args in
+    let at-check-at = c .before .before .before .check-at in
+    all-refused (at-args .tree .now) (at-args .text .now) _ (at-check-at .ensures) _
+    (c .before .walk2 .given .1)
 
 pub check-records-spec : {M : Type 1} → statement M
 check-records-spec =

@@ -8,7 +8,12 @@ returns : tie.Need-returns
 returns c = any-count _ (c .before .before .before .before .args .r) (c .if1 .taken)
 
 returns-2 : tie.Need-returns-2
-returns-2 c = slot-count (c .before .before .before .before .before .before .args .table .now) _ (c .before .before .before .before .before .before .args .r) _ (c .before .before .before .before .before .before .pre .0) (c .before .before .before .before .before .before .pre .1) (c .before .before .if1 .left) (c .slots .ensures)
+returns-2 c =
+    let at-args = c .before .before .before .before .before .before .args in
+    let at-pre = c .before .before .before .before .before .before .pre in
+    let at-if1 = c .before .before .if1 in
+    slot-count (at-args .table .now) _ (at-args .r) _ (at-pre .0) (at-pre .1) (at-if1 .left)
+    (c .slots .ensures)
 
 pub count-fits-spec : {M : Type 1} → statement M
 count-fits-spec = tie.close (tie.spec returns (λ c. search needs) (λ c κs. search needs) returns-2)

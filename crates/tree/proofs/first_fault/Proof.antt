@@ -5,22 +5,48 @@ use Rattle.tree.proofs.first_fault.Statement.{statement}
 use Rattle.tree.proofs.first_fault.Tie as tie
 
 returns : tie.Need-returns
-returns c = bad-mark (c .before .before .before .before .args .text .now) (c .before .before .before .before .args .r) _ _ _ (c .if1 .taken)
+returns c =
+    let at-args = c .before .before .before .before .args in
+    bad-mark (at-args .text .now) (at-args .r) _ _ _ (c .if1 .taken)
 
 fits-requires : tie.Need-fits-requires
 fits-requires c κs = c .before .before .before .before .pre
 
 returns-2 : tie.Need-returns-2
-returns-2 c = misfit (c .before .before .before .before .before .before .args .text .now) (c .before .before .before .before .before .before .args .r) _ _ _ (c .before .before .if1 .left) _ (c .before .fits2 .ensures) (c .if2 .taken)
+returns-2 c =
+    let at-args = c .before .before .before .before .before .before .args in
+    let at-if1 = c .before .before .if1 in
+    misfit (at-args .text .now) (at-args .r) _ _ _ (at-if1 .left) _ (c .before .fits2 .ensures)
+    (c .if2 .taken)
 
 returns-3 : tie.Need-returns-3
-returns-3 c = outside (c .before .before .before .before .before .before .before .before .args .text .now) (c .before .before .before .before .before .before .before .before .args .r) _ _ _ (c .before .before .before .before .if1 .left) _ (c .before .before .before .fits2 .ensures) (c .before .before .if2 .left) _ (c .before .inside .ensures) (c .if3 .taken)
+returns-3 c =
+    let at-args = c .before .before .before .before .before .before .before .before .args in
+    let at-if1 = c .before .before .before .before .if1 in
+    let at-fits2 = c .before .before .before .fits2 in
+    let at-if2 = c .before .before .if2 in
+    outside (at-args .text .now) (at-args .r) _ _ _ (at-if1 .left) _ (at-fits2 .ensures) (at-if2 .left)
+    _ (c .before .inside .ensures) (c .if3 .taken)
 
 returns-4 : tie.Need-returns-4
-returns-4 c = deep (c .before .before .before .before .before .before .before .before .before .args .text .now) (c .before .before .before .before .before .before .before .before .before .args .r) _ _ _ (c .before .before .before .before .before .if1 .left) _ (c .before .before .before .before .fits2 .ensures) (c .before .before .before .if2 .left) _ (c .before .before .inside .ensures) (c .before .if3 .left) (c .if4 .taken)
+returns-4 c =
+    let at-args = c .before .before .before .before .before .before .before .before .before .args in
+    let at-if1 = c .before .before .before .before .before .if1 in
+    let at-fits2 = c .before .before .before .before .fits2 in
+    let at-if2 = c .before .before .before .if2 in
+    let at-inside = c .before .before .inside in
+    deep (at-args .text .now) (at-args .r) _ _ _ (at-if1 .left) _ (at-fits2 .ensures) (at-if2 .left) _
+    (at-inside .ensures) (c .before .if3 .left) (c .if4 .taken)
 
 returns-5 : tie.Need-returns-5
-returns-5 c = fine (c .before .before .before .before .before .before .before .before .before .args .text .now) (c .before .before .before .before .before .before .before .before .before .args .r) _ _ _ (c .before .before .before .before .before .if1 .left) _ (c .before .before .before .before .fits2 .ensures) (c .before .before .before .if2 .left) _ (c .before .before .inside .ensures) (c .before .if3 .left) (c .if4 .left)
+returns-5 c =
+    let at-args = c .before .before .before .before .before .before .before .before .before .args in
+    let at-if1 = c .before .before .before .before .before .if1 in
+    let at-fits2 = c .before .before .before .before .fits2 in
+    let at-if2 = c .before .before .before .if2 in
+    let at-inside = c .before .before .inside in
+    fine (at-args .text .now) (at-args .r) _ _ _ (at-if1 .left) _ (at-fits2 .ensures) (at-if2 .left) _
+    (at-inside .ensures) (c .before .if3 .left) (c .if4 .left)
 
 pub first-fault-spec : {M : Type 1} → statement M
 first-fault-spec = tie.close (tie.spec returns fits-requires returns-2 (λ c κs. search needs) returns-3 returns-4 returns-5)

@@ -8,10 +8,18 @@ use Rattle.tree.proofs.flags_fit.Tie as tie
 
 returns : tie.Need-returns
 unfolding flagsFit
-returns c = rw (eq-eqb (c .before .before .before .before .before .args .r .kind) 2 (c .before .before .if1 .taken)) (c .known .ensures)
+returns c =
+    let at-args = c .before .before .before .before .before .args in
+    let at-if1 = c .before .before .if1 in
+    rw (eq-eqb (at-args .r .kind) 2 (at-if1 .taken)) (c .known .ensures)
 
 returns-2 : tie.Need-returns-2
-returns-2 c = flags-table (c .before .before .before .before .before .args .table .now) (c .before .before .before .before .before .args .r) _ (c .before .before .before .before .before .pre .0) (c .before .before .before .before .before .pre .1) (c .before .before .if1 .left) (c .flags-below .ensures)
+returns-2 c =
+    let at-args = c .before .before .before .before .before .args in
+    let at-pre = c .before .before .before .before .before .pre in
+    let at-if1 = c .before .before .if1 in
+    flags-table (at-args .table .now) (at-args .r) _ (at-pre .0) (at-pre .1) (at-if1 .left)
+    (c .flags-below .ensures)
 
 pub flags-fit-spec : {M : Type 1} → statement M
 flags-fit-spec = tie.close (tie.spec (λ c κs. search needs) returns (λ c. search needs) (λ c κs. search needs) returns-2)

@@ -19,13 +19,29 @@ loop-holds : tie.Need-loop-holds Inv-loop μ-loop
 loop-holds c = (omega arith, omega arith, part-begins _ _ (c .before .pre .0) (c .before .pre .1))
 
 returns : tie.Need-returns Inv-loop μ-loop
-returns c = record { past = c .before .before .before .loop .inv .0; within = c .before .before .before .loop .inv .1; part = sym (c .before .before .before .loop .inv .2) ∙ at-white _ _ _ _ (c .before .before .before .loop .inv .0) (c .before .white-length .ensures) (c .if1 .taken) }
+returns c =
+    let at-loop = c .before .before .before .loop in
+    record {
+      past = at-loop .inv .0;
+      within = at-loop .inv .1;
+      part = sym (at-loop .inv .2) ∙ at-white _
+          _ _ _ (at-loop .inv .0) (c .before .white-length .ensures) (c .if1 .taken);
+    }
 
 loop-again : tie.Need-loop-again Inv-loop μ-loop
-loop-again c = (omega arith, omega arith, part-goes-on _ _ _ (c .before .before .loop-test .taken) (c .before .before .before .loop .inv .0) (let z = c .before .white-length .ensures in omega arith) ∙ c .before .before .before .loop .inv .2)
+loop-again c =
+    let at-loop-test = c .before .before .loop-test in
+    let at-loop = c .before .before .before .loop in
+    (omega arith, omega arith, part-goes-on _ _ _ (at-loop-test .taken) (at-loop .inv .0) (let z = c .before .white-length .ensures in omega arith) ∙ at-loop .inv .2)
 
 returns-2 : tie.Need-returns-2 Inv-loop μ-loop
-returns-2 c = record { past = c .before .loop .inv .0; within = c .before .loop .inv .1; part = sym (c .before .loop .inv .2) ∙ at-end _ _ _ (c .before .loop .inv .0) (c .loop-test .left) }
+returns-2 c =
+    record {
+      past = c .before .loop .inv .0;
+      within = c .before .loop .inv .1;
+      part = sym
+          (c .before .loop .inv .2) ∙ at-end _ _ _ (c .before .loop .inv .0) (c .loop-test .left);
+    }
 
 pub skip-part-spec : {M : Type 1} → statement M
 skip-part-spec =

@@ -26,10 +26,20 @@ loop-less : tie.Need-loop-less Inv-loop μ-loop
 loop-less c = omega (arith, white-le (c .before .before .before .before .before .args .s .now) (c .before .before .loop .i))
 
 loop-again : tie.Need-loop-again Inv-loop μ-loop
-loop-again c = (omega arith, omega (arith, white-le (c .before .before .before .before .before .args .s .now) (c .before .before .loop .i)), c .white-length2 .ensures, over-white _ _ _ (c .before .before .loop .inv .2) (c .before .loop-test .taken) (c .before .before .loop .inv .1) ∙ c .before .before .loop .inv .3)
+loop-again c =
+    let at-args = c .before .before .before .before .before .args in
+    let at-loop = c .before .before .loop in
+    (omega arith, omega (arith, white-le (at-args .s .now) (at-loop .i)), c .white-length2 .ensures, over-white _ _ _ (at-loop .inv .2) (c .before .loop-test .taken) (at-loop .inv .1) ∙ at-loop .inv .3)
 
 returns : tie.Need-returns Inv-loop μ-loop
-returns c = record { past = c .before .loop .inv .0; within = c .before .loop .inv .1; none = omega arith; same = c .before .loop .inv .3 }
+returns c =
+    record {
+      past = c .before .loop .inv .0;
+      within = c .before .loop .inv .1;
+      none = omega arith;
+      same
+          = c .before .loop .inv .3;
+    }
 
 pub skip-white-spec : {M : Type 1} → statement M
 skip-white-spec =

@@ -31,7 +31,10 @@ loop-less : tie.Need-loop-less Inv-loop μ-loop
 loop-less c = omega (arith, c .before .before .skip-part .ensures .past, c .skip-white2 .ensures .past)
 
 loop-again : tie.Need-loop-again Inv-loop μ-loop
-loop-again c = (c .skip-white2 .ensures .within, c .skip-white2 .ensures .none, one-passed _ _ _ _ _ _ (c .before .before .before .before .loop .inv .2) (c .before .before .skip-part .ensures) (c .before .count-part .ensures) (c .skip-white2 .ensures))
+loop-again c =
+    let at-loop = c .before .before .before .before .loop in
+    let at-skip-part = c .before .before .skip-part in
+    (c .skip-white2 .ensures .within, c .skip-white2 .ensures .none, one-passed _ _ _ _ _ _ (at-loop .inv .2) (at-skip-part .ensures) (c .before .count-part .ensures) (c .skip-white2 .ensures))
 
 returns : tie.Need-returns Inv-loop μ-loop
 returns c = all-passed _ _ _ (c .loop-test .left) (c .before .loop .inv .2)
