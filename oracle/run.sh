@@ -1,5 +1,6 @@
 #!/usr/bin/env bash
-# Builds the oracle, holds the stored files to it, and compares the library with the crate and the check with the model.
+# Builds the oracle, holds the stored files to it, and compares the library and the grammar's entries with the crate
+# and the check with the model.
 # `run.sh --store` writes the stored files instead, and ends.
 set -euo pipefail
 
@@ -10,11 +11,17 @@ EXPECTED=crates/replay/stdout
 TREES=crates/replay_trees/stdin
 ANSWERS=crates/replay_trees/stdout
 
+# Folders of the definitions that the entries are read from.
+GRAMMAR=crates/grammar/specs
+SPELLING=crates/spelling/specs
+
 # Extent of the comparison.
 TOKENS=${TOKENS:-2000000}
 REFUSED=${REFUSED:-2000000}
 SEED=${SEED:-1}
 TREE_CASES=${TREE_CASES:-1000000}
+ENTRIES=${ENTRIES:-1000000}
+ENTRY_FAULTS=20000
 LISTED=1000
 LISTED_SEED=1
 
@@ -87,3 +94,7 @@ KINYANDOMA_LIB=target/staticlib build --package compare
 echo "the check of trees against the model:"
 rt check replay_trees
 "$programs/model" stream "$TREE_CASES" "$SEED" | target/bin/replay_trees | "$programs/model" judge "$TREE_CASES" "$SEED"
+
+echo "the entries of the grammar against the crate:"
+"$programs/entries" faults "$ENTRY_FAULTS" "$SEED" "$GRAMMAR" "$SPELLING"
+"$programs/entries" "$ENTRIES" "$SEED" "$GRAMMAR" "$SPELLING" | tail -3

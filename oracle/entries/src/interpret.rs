@@ -1,0 +1,291 @@
+//! What the entries write for a tree.
+
+use crate::shape::{Class, Shape, Table};
+use model::grammar::{LIST, NONE, NUMBER, REPLACE, RUN, TEXT};
+use model::record::{Record, VALUE_PRESENT};
+use tokens::token::Token;
+use turso_parser::token::TokenType::*;
+
+pub struct Node {
+    pub record: Record,
+    pub children: Vec<Node>,
+}
+
+/// The whole tree as one node.
+pub fn node(tree: &[u8]) -> Result<Node, String> {
+    let mut index = 0;
+    let root = node_at(tree, &mut index)?;
+    match Record::read(tree, index) {
+        Some(_) => Err("records remain".to_string()),
+        None => Ok(root),
+    }
+}
+
+fn node_at(tree: &[u8], index: &mut usize) -> Result<Node, String> {
+    let record = Record::read(tree, *index).ok_or("a record is missing")?;
+    *index += 1;
+    let children = (0..record.children).map(|_| node_at(tree, index));
+    let children = children.collect::<Result<_, _>>()?;
+    Ok(Node { record, children })
+}
+
+/// How many children a shape holds. `each` has no fixed number and stands alone.
+fn held(shape: &Shape) -> usize {
+    match shape {
+        Shape::When(_, inner) | Shape::Is(_, inner) => held(inner),
+        Shape::Given(inner) | Shape::Filled(inner) => held(inner),
+        Shape::Later(first, second) | Shape::Then(first, second) => held(first) + held(second),
+        Shape::Slot(_) | Shape::Commas(_) | Shape::Row(_) => 1,
+        Shape::Lines(..) | Shape::Tuples(_) => 1,
+        Shape::Decimal | Shape::Brackets | Shape::Quoted | Shape::Rowid => 1,
+        Shape::Source => 2,
+        _ => 0,
+    }
+}
+
+pub fn holds(shape: &Shape) -> bool {
+    held(shape) > 0
+}
+
+fn admitted(class: &Class, node: &Node) -> bool {
+    let all = |class| node.children.iter().all(|child| admitted(class, child));
+    let kind = node.record.kind;
+    match class {
+        Class::One(kinds) => kinds.contains(&kind),
+        Class::List(class) => kind == LIST && all(class),
+        Class::OneOr(kinds, class) => kinds.contains(&kind) || kind == LIST && all(class),
+        Class::Small => kind == NUMBER && (0..256).contains(&node.record.as_number()),
+    }
+}
+
+fn is_white(c: char) -> bool {
+    matches!(c as u32, 0x9..=0xD | 0x20 | 0x85 | 0xA0 | 0x1680 | 0x2000..=0x200A
+        | 0x2028 | 0x2029 | 0x202F | 0x205F | 0x3000)
+}
+
+pub struct Interpreter<'a> {
+    pub table: &'a Table,
+    pub text: &'a str,
+    pub out: Vec<Token>,
+}
+
+type Done = Result<(), String>;
+
+impl Interpreter<'_> {
+    pub fn root(&mut self, root: &Class, node: &Node) -> Done {
+        if !admitted(root, node) {
+            return Err(format!("kind {} as root", node.record.kind));
+        }
+        match node.record.kind {
+            LIST => self.commas(&node.children),
+            _ => self.node(node),
+        }
+    }
+
+    pub fn node(&mut self, node: &Node) -> Done {
+        let kind = node.record.kind;
+        let table = self.table;
+        let shape = table.get(&kind).ok_or(format!("no entry of {kind}"))?;
+        let mut next = 0;
+        self.write(shape, node, &mut next)?;
+        match next == node.children.len() {
+            true => Ok(()),
+            false => Err(format!("{next} children of kind {kind}")),
+        }
+    }
+
+    fn put(&mut self, token: Token) {
+        self.out.push(token);
+    }
+
+    fn word(&mut self, number: u16) {
+        self.put(Token {
+            number,
+            value: None,
+        });
+    }
+
+    fn line(&mut self, number: u16) {
+        let value = Some("\n".to_string());
+        self.put(Token { number, value });
+    }
+
+    fn part(&self, node: &Node) -> Result<String, String> {
+        let start = node.record.start as usize;
+        let part = self.text.get(start..start + node.record.length as usize);
+        part.map(str::to_string).ok_or("a text part".to_string())
+    }
+
+    fn commas(&mut self, nodes: &[Node]) -> Done {
+        for (index, node) in nodes.iter().enumerate() {
+            if index > 0 {
+                self.put(Token::bare(TK_COMMA));
+            }
+            self.node(node)?;
+        }
+        Ok(())
+    }
+
+    fn write(&mut self, shape: &Shape, of: &Node, next: &mut usize) -> Done {
+        match shape {
+            Shape::Nothing => {}
+            Shape::Token => {
+                let valued = of.record.flags & VALUE_PRESENT != 0;
+                let value = valued.then(|| self.part(of)).transpose()?;
+                let number = of.record.flags & !VALUE_PRESENT;
+                self.put(Token { number, value });
+            }
+            Shape::Ident => self.put(Token::id(&self.part(of)?)),
+            Shape::Word(number) => self.word(*number),
+            Shape::Said(text) => self.put(Token::id(text)),
+            Shape::Line(number) => self.line(*number),
+            Shape::When(bit, inner) => {
+                self.if_so(of.record.flags >> bit & 1 == 1, inner, of, next)?
+            }
+            Shape::Is(flags, inner) => self.if_so(of.record.flags == *flags, inner, of, next)?,
+            Shape::Given(inner) => {
+                let none = look(of, *next)?.record.kind == NONE;
+                self.if_so(!none, inner, of, next)?;
+            }
+            Shape::Filled(inner) => {
+                let list = look(of, *next)?;
+                if list.record.kind != LIST {
+                    return Err("filled: not a LIST".to_string());
+                }
+                self.if_so(!list.children.is_empty(), inner, of, next)?;
+            }
+            Shape::Replacing(yes, no) => {
+                let replace = look(of, *next)?.record.kind == REPLACE;
+                self.write(if replace { yes } else { no }, of, next)?;
+            }
+            Shape::Each(class) => {
+                while *next < of.children.len() {
+                    let child = take(class, of, next)?;
+                    self.node(child)?;
+                }
+            }
+            Shape::Later(first, second) => {
+                let mut ahead = *next + held(first);
+                self.write(second, of, &mut ahead)?;
+                self.write(first, of, next)?;
+                *next = ahead;
+            }
+            Shape::Then(first, second) => {
+                self.write(first, of, next)?;
+                self.write(second, of, next)?;
+            }
+            _ => self.child(shape, of, next)?,
+        }
+        Ok(())
+    }
+
+    fn if_so(&mut self, so: bool, inner: &Shape, of: &Node, next: &mut usize) -> Done {
+        match so {
+            true => self.write(inner, of, next)?,
+            false => *next += held(inner),
+        }
+        Ok(())
+    }
+
+    /// The shapes that take the next child, or the next two.
+    fn child(&mut self, shape: &Shape, of: &Node, next: &mut usize) -> Done {
+        let text = Class::One(vec![TEXT]);
+        let text_or_none = Class::One(vec![NONE, TEXT]);
+        match shape {
+            Shape::Slot(class) => {
+                let child = take(class, of, next)?;
+                self.node(child)?;
+            }
+            Shape::Commas(class) => {
+                let list = take(&list_of(class), of, next)?;
+                self.commas(&list.children)?;
+            }
+            Shape::Row(class) => {
+                for child in &take(&list_of(class), of, next)?.children {
+                    self.node(child)?;
+                }
+            }
+            Shape::Lines(class, number) => {
+                for child in &take(&list_of(class), of, next)?.children {
+                    self.node(child)?;
+                    self.line(*number);
+                }
+            }
+            Shape::Tuples(class) => {
+                let lists = take(&list_of(&list_of(class)), of, next)?;
+                for (index, list) in lists.children.iter().enumerate() {
+                    if index > 0 {
+                        self.put(Token::bare(TK_COMMA));
+                    }
+                    self.put(Token::bare(TK_LP));
+                    self.commas(&list.children)?;
+                    self.put(Token::bare(TK_RP));
+                }
+            }
+            Shape::Decimal => {
+                let child = take(&Class::One(vec![NONE, NUMBER]), of, next)?;
+                if child.record.kind == NUMBER {
+                    self.put(Token::id(&child.record.as_number().to_string()));
+                }
+            }
+            Shape::Brackets => {
+                for _ in 0..take(&Class::Small, of, next)?.record.as_number() {
+                    self.put(Token::bare(TK_LBRACKET));
+                    self.put(Token::bare(TK_RBRACKET));
+                }
+            }
+            Shape::Quoted => {
+                let part = self.part(take(&text, of, next)?)?;
+                self.put(Token::with(TK_STRING, &format!("'{part}'")));
+            }
+            Shape::Rowid => {
+                let child = take(&text_or_none, of, next)?;
+                if child.record.kind == TEXT {
+                    self.rowid(&self.part(child)?);
+                }
+            }
+            Shape::Source => {
+                let expression = take(&Class::One(vec![RUN]), of, next)?;
+                let source = take(&text_or_none, of, next)?;
+                if source.record.length == 0 {
+                    return self.node(expression);
+                }
+                let part = self.part(source)?;
+                self.put(Token::id(&part));
+                if part.contains("--") {
+                    self.put(Token::id("\n"));
+                }
+            }
+            _ => return Err(format!("no child in {shape:?}")),
+        }
+        Ok(())
+    }
+
+    fn rowid(&mut self, part: &str) {
+        let words = part.split(is_white).filter(|word| !word.is_empty());
+        if let [_, second] = words.collect::<Vec<_>>()[..] {
+            self.put(Token::bare(TK_WITHOUT));
+            self.put(Token::id(second));
+        }
+    }
+}
+
+fn list_of(class: &Class) -> Class {
+    Class::List(Box::new(class.clone()))
+}
+
+fn look(of: &Node, next: usize) -> Result<&Node, String> {
+    let missing = || format!("child {next} of kind {} is missing", of.record.kind);
+    of.children.get(next).ok_or_else(missing)
+}
+
+/// The next child, if its place admits it.
+fn take<'a>(class: &Class, of: &'a Node, next: &mut usize) -> Result<&'a Node, String> {
+    let child = look(of, *next)?;
+    if !admitted(class, child) {
+        let (above, kind) = (of.record.kind, child.record.kind);
+        return Err(format!("kind {kind} as child {next} of kind {above}"));
+    }
+    *next += 1;
+    Ok(child)
+}
