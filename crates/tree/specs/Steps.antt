@@ -1,9 +1,9 @@
 -- Laws of the walk on child records: one for each way through the four functions that call each other.
-use Prim.Native.Nat.{ℕ, zero, suc, _+_, _-_, _≤_, _<_}
+use Prim.Native.Nat.{ℕ, suc, _+_, _-_, _≤_, _<_}
 use native.Mathlib.Omega.{arith}
-use native.Mathlib.Numerals.{add-one, sub-one}
+use native.Mathlib.Numerals.{add-one}
 use mathlib.Core.Path.{_≡_, refl, _∙_, ap, sym}
-use mathlib.Core.List.{List, [], _∷_, map}
+use mathlib.Core.List.{List, [], _∷_, _++_, map}
 use lib.ListN.{length, drop, replicate, drop-of-length-le}
 use lib.Seq.{drop-cons}
 use borrow.Author.Tests.{eq-eqb, ne-eqb, ltb-false, not-false}
@@ -19,13 +19,13 @@ use Rattle.grammar.specs.Classes.{classesHeld, classAt, tokenAt, token-is}
 use Rattle.grammar.specs.Bytes.{bytes}
 use Rattle.grammar.specs.Table.{elementIn, slotsIn, slotIn}
 use Rattle.grammar.specs.Laws.{kindsHeld, allowed-held, element-held, element-is, slots-are, slots-few, slot-held, slot-is}
-use Rattle.tree.specs.Check.{Place, place, holds, fits, faults, deepest}
+use Rattle.tree.specs.Check.{Place, place, holds, fits, faults, deepest, scan}
 use Rattle.tree.specs.declared.Answer.{Answer}
 use Rattle.tree.specs.declared.Walk.{Walk}
 use Rattle.tree.specs.declared.Walk.the-variants.{Next, Refused}
 use Rattle.tree.specs.declared.Fault.{Fault}
 use Rattle.tree.specs.declared.Fault.the-variants.{Fine, Is}
-use Rattle.tree.specs.Walk.{Walks, faultIn, same-fault, not-fine, none, more, stops, goes-down}
+use Rattle.tree.specs.Walk.{Walks, resumed, faultIn, same-fault, not-fine, goes-down}
 
 -- ---- what is known of a record with no fault
 module _ (x : List ℕ) (r : Record) (i n left : ℕ) (f : Fault) (found : f ≡ faultIn x r i (place (65 - left) (classAt n))) (e : f ≡ Fine) where
@@ -78,29 +78,61 @@ pub run-below : (t x : List ℕ) (i d n : ℕ) (r : Record) (w : Walk) → r .ki
 run-below t x i d n r w k b = rw (holds-run (classAt n) r k, ← token-is) b
 
 pub slots-below : (t x : List ℕ) (i d n : ℕ) (r : Record) (w : Walk) → (r .kind ≡ LIST → ⊥) → (r .kind ≡ RUN → ⊥)
-    → Walks t x i (map (place d) (drop 0 (slotsOf (shape (r .kind))))) w → Walks t x i (map (place d) (holds (classAt n) r)) w
+    → Walks t x i (map (place d) (slotsOf (shape (r .kind)))) w → Walks t x i (map (place d) (holds (classAt n) r)) w
 slots-below t x i d n r w k l b = rw (holds-slots (classAt n) r k l) b
 
+-- ---- along a row of places: from index i with the places ps to index j with qs left
+pub record Along (t x : List ℕ) (i : ℕ) (ps : List Place) (j : ℕ) (qs : List Place) : Type 0 where
+  pub ended : j ≤ count t
+  pub is : (rest : List Place) → scan t x (count t - j) j (qs ++ rest) ≡ scan t x (count t - i) i (ps ++ rest)
+
+pub along-start : (t x : List ℕ) (i : ℕ) (ps : List Place) → i ≤ count t → Along t x i ps i ps
+along-start t x i ps h = record { ended = h; is = λ rest. refl }
+
+module _ (t x : List ℕ) (i : ℕ) (ps : List Place) (j : ℕ) where
+  pub along-end : Along t x i ps j [] → Walks t x i ps (Next j)
+  unfolding resumed
+  along-end a = record { is = λ rest. sym (a .is rest); ended = a .ended }
+
+  module _ (p : Place) (qs : List Place) (v : Walk) (a : Along t x i ps j (p ∷ qs)) (w : Walks t x j (p ∷ []) v) where
+    pub along-next : (k : ℕ) → v ≡ Next k → Along t x i ps k qs
+    unfolding resumed
+    along-next k e =
+        record {
+          ended = (rw e at w) .ended;
+          is = λ rest. sym (w .is (qs ++ rest) ∙ ap (λ (u : Walk). resumed t x u (qs ++ rest)) e) ∙ a .is rest;
+        }
+
+    pub along-stops : (b : Answer) → v ≡ Refused b → Walks t x i ps (Refused b)
+    unfolding resumed
+    along-stops b e =
+        record {
+          is = λ rest. sym (a .is rest) ∙ w .is (qs ++ rest) ∙ ap (λ (u : Walk). resumed t x u (qs ++ rest)) e;
+          ended = tt;
+        }
+
 -- ---- a row of records in the same place
-module _ (t x : List ℕ) (i d : ℕ) (c : Class) where
-  pub row-none : (n : ℕ) → n ≡ 0 → i ≤ count t → Walks t x i (map (place d) (replicate n c)) (Next i)
-  row-none n e h = rw e (none t x i h)
+module _ (t x : List ℕ) (i : ℕ) (ps : List Place) (j d : ℕ) (c : Class) (n : ℕ) (a : Along t x i ps j (map (place d) (replicate n c))) where
+  pub row-end : n ≤ 0 → Walks t x i ps (Next j)
+  row-end h = let z : n ≡ 0 = omega arith in along-end t x i ps j (rw z at a)
 
-  pub row-more : (n j : ℕ) (v w : Walk) → (n ≡ 0 → ⊥) → Walks t x i (place d c ∷ []) v → v ≡ Next j → Walks t x j (map (place d) (replicate (n - 1) c)) w
-      → Walks t x i (map (place d) (replicate n c)) w
-  row-more zero j v w z a e b = absurd (z refl)
-  row-more (suc n) j v w z a e b = more t x i (place d c) (map (place d) (replicate n c)) v w j a e (rw sub-one at b)
+  module _ (some : 0 < n) (v : Walk) (w : Walks t x j (place d c ∷ []) v) where
+    split-row : Along t x i ps j (place d c ∷ map (place d) (replicate (n - 1) c))
+    split-row = let z : n ≡ suc (n - 1) = omega arith in rw z at a
 
-  pub row-stops : (n : ℕ) (v : Walk) (a : Answer) → (n ≡ 0 → ⊥) → Walks t x i (place d c ∷ []) v → v ≡ Refused a → Walks t x i (map (place d) (replicate n c)) (Refused a)
-  row-stops zero v a z w e = absurd (z refl)
-  row-stops (suc n) v a z w e = stops t x i (place d c) (map (place d) (replicate n c)) v a w e
+    pub row-next : (k : ℕ) → v ≡ Next k → Along t x i ps k (map (place d) (replicate (n - 1) c))
+    row-next k e = along-next t x i ps j (place d c) (map (place d) (replicate (n - 1) c)) v split-row w k e
+
+    pub row-stops : (b : Answer) → v ≡ Refused b → Walks t x i ps (Refused b)
+    row-stops b e = along-stops t x i ps j (place d c) (map (place d) (replicate (n - 1) c)) v split-row w b e
 
 -- ---- a kind's slots
-module _ (tab t x : List ℕ) (i d k s : ℕ) (is-table : tab ≡ bytes) (h : k < kindsHeld) (n : ℕ) (counted : n ≡ slotsIn tab k) where
-  pub slots-none : n ≤ s → i ≤ count t → Walks t x i (map (place d) (drop s (slotsOf (shape k)))) (Next i)
-  slots-none l g =
+module _ (tab : List ℕ) (k s : ℕ) (is-table : tab ≡ bytes) (h : k < kindsHeld) (n : ℕ) (counted : n ≡ slotsIn tab k) where
+  pub slots-end : (t x : List ℕ) (i : ℕ) (ps : List Place) (j d : ℕ) → Along t x i ps j (map (place d) (drop s (slotsOf (shape k)))) → n ≤ s
+      → Walks t x i ps (Next j)
+  slots-end t x i ps j d a l =
       let q : n ≡ length (slotsOf (shape k)) = counted ∙ ap (λ (z : List ℕ). slotsIn z k) is-table ∙ slots-are k h in
-      rw (drop-of-length-le (slotsOf (shape k)) {i = s} (omega arith)) (none t x i g)
+      along-end t x i ps j (rw (drop-of-length-le (slotsOf (shape k)) {i = s} (omega arith)) at a)
 
   module _ (m : ℕ) (named : m ≡ slotIn tab k s) (l : s < n) where
     within : s < slotsIn bytes k
@@ -118,13 +150,9 @@ module _ (tab t x : List ℕ) (i d k s : ℕ) (is-table : tab ≡ bytes) (h : k 
         let g : s < length (slotsOf (shape k)) = omega (arith, within) in
         rw (add-one, drop-cons (slotsOf (shape k)) s (one []) g, named, is-table, slot-is k h s within)
 
-    pub slots-more : (j : ℕ) (v w : Walk) → Walks t x i (place d (classAt m) ∷ []) v → v ≡ Next j → Walks t x j (map (place d) (drop (s + 1) (slotsOf (shape k)))) w
-        → Walks t x i (map (place d) (drop s (slotsOf (shape k)))) w
-    slots-more j v w a e b = rw split (more t x i (place d (classAt m)) (map (place d) (drop (s + 1) (slotsOf (shape k)))) v w j a e b)
+    module _ (t x : List ℕ) (i : ℕ) (ps : List Place) (j d : ℕ) (a : Along t x i ps j (map (place d) (drop s (slotsOf (shape k))))) (v : Walk) (w : Walks t x j (place d (classAt m) ∷ []) v) where
+      pub slots-next : (e : ℕ) → v ≡ Next e → Along t x i ps e (map (place d) (drop (s + 1) (slotsOf (shape k))))
+      slots-next e q = along-next t x i ps j (place d (classAt m)) (map (place d) (drop (s + 1) (slotsOf (shape k)))) v (rw split at a) w e q
 
-    pub slots-stop : (v : Walk) (a : Answer) → Walks t x i (place d (classAt m) ∷ []) v → v ≡ Refused a → Walks t x i (map (place d) (drop s (slotsOf (shape k)))) (Refused a)
-    slots-stop v a w e = rw split (stops t x i (place d (classAt m)) (map (place d) (drop (s + 1) (slotsOf (shape k)))) v a w e)
-
--- a walk that goes on does so within the tree
-pub next-within : (t x : List ℕ) (i j : ℕ) (ps : List Place) (v : Walk) → Walks t x i ps v → v ≡ Next j → j ≤ count t
-next-within t x i j ps v a e = (rw e at a) .ended
+      pub slots-stop : (b : Answer) → v ≡ Refused b → Walks t x i ps (Refused b)
+      slots-stop b q = along-stops t x i ps j (place d (classAt m)) (map (place d) (drop (s + 1) (slotsOf (shape k)))) v (rw split at a) w b q

@@ -1,7 +1,7 @@
 -- What a walk of the tree comes to, against the scan by index: the contract of the functions that call each other on child records.
 use Prim.Native.Nat.{ℕ, suc, _+_, _-_, _≤_, _<_}
 use native.Mathlib.Omega.{arith}
-use mathlib.Core.Path.{_≡_, refl, _∙_, ap, sym}
+use mathlib.Core.Path.{_≡_, _∙_, sym}
 use mathlib.Core.List.{List, [], _∷_, _++_, map}
 use Rattle.laws.specs.First.{first, within, first-some, first-none}
 use Rattle.record.specs.Record.{recordAt, count}
@@ -45,20 +45,6 @@ module _ (t x : List ℕ) (i : ℕ) where
   pub past : (p : Place) → count t ≤ i → Walks t x i (p ∷ []) (Refused (Ends i))
   unfolding resumed scan
   past p h = let e : count t - i ≡ 0 = omega arith in record { is = λ rest. rw e; ended = tt }
-
-  pub none : i ≤ count t → Walks t x i [] (Next i)
-  unfolding resumed
-  none h = record { is = λ rest. refl; ended = h }
-
-  pub more : (p : Place) (ps : List Place) (v w : Walk) (j : ℕ) → Walks t x i (p ∷ []) v → v ≡ Next j → Walks t x j ps w → Walks t x i (p ∷ ps) w
-  unfolding resumed
-  more p ps v w j a e b =
-      record { is = λ rest. a .is (ps ++ rest) ∙ ap (λ (u : Walk). resumed t x u (ps ++ rest)) e ∙ b .is rest; ended = b .ended }
-
-  pub stops : (p : Place) (ps : List Place) (v : Walk) (a : Answer) → Walks t x i (p ∷ []) v → v ≡ Refused a → Walks t x i (p ∷ ps) (Refused a)
-  unfolding resumed
-  stops p ps v a w e =
-      record { is = λ rest. w .is (ps ++ rest) ∙ ap (λ (u : Walk). resumed t x u (ps ++ rest)) e; ended = tt }
 
 -- at a record that is there, the scan looks at its faults, and goes on with its children's places
 module _ (t x : List ℕ) (i : ℕ) (p : Place) (there : i < count t) where

@@ -5,7 +5,7 @@ ghost use mathlib.Core.Path.{_≡_};
 ghost use mathlib.Core.List.{[], _∷_, map};
 ghost use lib.Dec.{eqb};
 ghost use Prim.Native.Nat.{_+_, _-_, _≤_, _<_};
-ghost use lib.ListN.{length, drop, replicate};
+ghost use lib.ListN.{length, replicate};
 ghost use Rattle.record.specs.Record.{count as count'};
 ghost use Rattle.grammar.specs.Bytes.{bytes};
 ghost use Rattle.grammar.specs.Grammar.{shape, root};
@@ -249,7 +249,7 @@ fn check_below(
     if r.kind == RUN {
         return check_row(tree, text, table, index, TOKENS, left, r.kids as usize);
     }
-    check_slots(tree, text, table, index, r.kind, left, 0)
+    check_slots(tree, text, table, index, r.kind, left)
 }
 
 // Some records, one behind the other, each in the same place.
@@ -265,38 +265,37 @@ fn check_row(
     requires { ⌜ (now table ≡ bytes) × ((place < classesHeld) × ((left < 64) × ((index ≤ count' (now tree)) × (n < 65536)))) ⌝ }
     ensures { λ w. ⌜ Walks (now (tree .entry)) (now (text .entry)) index (map (at (65 - left)) (replicate n (classAt place))) w ⌝ }
 {
-    if n == 0 {
-        return Walk::Next(index);
+    let mut next = index;
+    let mut rest = n;
+    while 0 < rest {
+        let one = check_at(tree, text, table, next, place, left);
+        match one {
+            Walk::Next(behind) => next = behind,
+            Walk::Refused(answer) => return Walk::Refused(answer),
+        }
+        rest -= 1;
     }
-    let one = check_at(tree, text, table, index, place, left);
-    match one {
-        Walk::Next(next) => check_row(tree, text, table, next, place, left, n - 1),
-        Walk::Refused(answer) => Walk::Refused(answer),
-    }
+    Walk::Next(next)
 }
 
-// The records that fill a kind's slots, from slot s on.
-fn check_slots(
-    tree: &[u8],
-    text: &[u8],
-    table: &[u8],
-    index: usize,
-    kind: u16,
-    left: usize,
-    s: u8,
-) -> Walk
+// The records that fill a kind's slots.
+fn check_slots(tree: &[u8], text: &[u8], table: &[u8], index: usize, kind: u16, left: usize) -> Walk
     requires { ⌜ (now table ≡ bytes) × ((kind < kindsHeld) × ((left < 64) × (index ≤ count' (now tree)))) ⌝ }
-    ensures { λ w. ⌜ Walks (now (tree .entry)) (now (text .entry)) index (map (at (65 - left)) (drop s (slotsOf (shape kind)))) w ⌝ }
+    ensures { λ w. ⌜ Walks (now (tree .entry)) (now (text .entry)) index (map (at (65 - left)) (slotsOf (shape kind))) w ⌝ }
 {
-    if grammar::slots(table, kind) <= s as usize {
-        return Walk::Next(index);
+    let n = grammar::slots(table, kind);
+    let mut next = index;
+    let mut s: u8 = 0;
+    while (s as usize) < n {
+        let place = grammar::slot(table, kind, s);
+        let one = check_at(tree, text, table, next, place as u8, left);
+        match one {
+            Walk::Next(behind) => next = behind,
+            Walk::Refused(answer) => return Walk::Refused(answer),
+        }
+        s += 1;
     }
-    let place = grammar::slot(table, kind, s);
-    let one = check_at(tree, text, table, index, place as u8, left);
-    match one {
-        Walk::Next(next) => check_slots(tree, text, table, next, kind, left, s + 1),
-        Walk::Refused(answer) => Walk::Refused(answer),
-    }
+    Walk::Next(next)
 }
 
 // Whether a tree is empty, over-long, or no row of whole records.

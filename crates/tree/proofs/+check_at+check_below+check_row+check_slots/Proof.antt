@@ -1,10 +1,16 @@
--- The check of a tree: `check_at`, `check_below`, `check_row` and `check_slots` meet their contracts. They call each other on child records; the depth that is left falls at a step down, and along a row what is left of it.
--- Each way through is one law of `Steps` or `Walk`.
+-- The check of a tree: `check_at`, `check_below`, `check_row` and `check_slots` meet their contracts. They call each other on child records, and the depth that is left falls at each step down.
+-- Along a row and along the slots goes a loop: what is left from here is what was to be checked from the start (`Along`). Each way through is one law of `Steps` or `Walk`.
 use borrow.Author.Needs.{needs}
 use native.Mathlib.Omega.{arith}
-use Prim.Native.Nat.{_+_, _-_, _*_}
+use Prim.Native.Nat.{_+_, _-_, _*_, _≤_}
+use mathlib.Core.List.{map}
+use lib.ListN.{replicate, drop}
+use Rattle.grammar.specs.Classes.{classAt}
+use Rattle.grammar.specs.Slots.{slotsOf}
+use Rattle.grammar.specs.Grammar.{shape}
+use Rattle.tree.specs.Check.{place}
 use Rattle.tree.specs.Walk.{past, faulted}
-use Rattle.tree.specs.Steps.{fine-left, fine-kind, down, element-small, list-below, run-below, slots-below, row-none, row-more, row-stops, slots-none, slot-next, slot-small, slots-more, slots-stop, next-within}
+use Rattle.tree.specs.Steps.{fine-left, fine-kind, down, element-small, list-below, run-below, slots-below, Along, along-start, row-end, row-next, row-stops, slots-end, slot-next, slot-small, slots-next, slots-stop}
 use Prim.Native.Nat.{ℕ, _<_}
 use borrow.Fn.Kinds.{In}
 use borrow.Fn.PlainCycle.{Measures, is, falls, and}
@@ -30,16 +36,16 @@ use Rattle.tree.proofs.+check_at+check_below+check_row+check_slots.{sta
 use Rattle.tree.proofs.+check_at+check_below+check_row+check_slots.Tie.{close}
 
 abbrev μ-check-at : Measures 3 check-at-kinds.ps ℕ
-μ-check-at κs a = a .1 .1 .1 .1 .1 .0 * 262144
+μ-check-at κs a = a .1 .1 .1 .1 .1 .0 * 3
 
 abbrev μ-check-below : Measures 3 check-below-kinds.ps ℕ
-μ-check-below κs a = a .1 .1 .1 .1 .1 .0 * 262144 + 131072
+μ-check-below κs a = a .1 .1 .1 .1 .1 .0 * 3 + 2
 
 abbrev μ-check-row : Measures 3 check-row-kinds.ps ℕ
-μ-check-row κs a = a .1 .1 .1 .1 .1 .0 * 262144 + 1 + a .1 .1 .1 .1 .1 .1 .0
+μ-check-row κs a = a .1 .1 .1 .1 .1 .0 * 3 + 1
 
 abbrev μ-check-slots : Measures 3 check-slots-kinds.ps ℕ
-μ-check-slots κs a = a .1 .1 .1 .1 .1 .0 * 262144 + 1 + (256 - a .1 .1 .1 .1 .1 .1 .0)
+μ-check-slots κs a = a .1 .1 .1 .1 .1 .0 * 3 + 1
 
 abbrev check-at-at : ℕ → In 3 check-at-kinds.ps
 check-at-at t = and 3 check-at-kinds.ps (is 3 check-at-kinds.ps μ-check-at t) check-at.Pre
@@ -146,93 +152,115 @@ check-below-met t =
     slots-below _ _ _ _ _ _ _ (at-if1 .left) (c .before .if2 .left) (c .check-slots .ensures))
 
 abbrev check-row-calls : ℕ → check-row-lts.Claims
-check-row-calls t = (check-at-below t, check-at.Post, check-row-below t, check-row.Post)
+check-row-calls t = (check-at-below t, check-at.Post)
 
-check-row-met : {M : Type 1} (t : ℕ) → check-row-lts.Closed (check-row-calls t) (check-row-at t) check-row.Post M
+-- along the row: what is left of it from here is what was to be checked from the start
+abbrev check-row-Inv-loop : check-row-lts.InvT-loop
+check-row-Inv-loop tree text table index p left n next₀ rest₀ next rest =
+    (rest ≤ n)
+    × Along tree text index (map (place (65 - left)) (replicate n (classAt p))) next (map (place (65 - left)) (replicate rest (classAt p)))
+
+abbrev check-row-μ-loop : check-row-lts.MeasureT-loop
+check-row-μ-loop tree text table index p left n next₀ rest₀ next rest = rest
+
+check-row-met : {M : Type 1} (t : ℕ)
+    → check-row-lts.Closed (check-row-calls t) (check-row-at t) check-row.Post M
 check-row-met t =
-    check-row-lts.spec (check-row-calls t) (check-row-at t) check-row.Post
-    (λ c.  -- returns
-    let at-args = c .before .before .before .before .args in
-    let at-pre = c .before .before .before .before .pre in
-    row-none (at-args .tree .now) (at-args .text .now) _ _ _ _ (c .if1 .taken) (at-pre .1 .1 .1 .1 .0))
+    check-row-lts.spec (check-row-calls t) (check-row-at t) check-row.Post check-row-Inv-loop check-row-μ-loop
+    (λ c.  -- loop-holds
+    let at-pre = c .before .before .before .pre in
+    (omega arith, along-start _ _ _ _ (at-pre .1 .1 .1 .1 .0)))
     (λ c κs.  -- check-at-requires
-    let at-pre = c .before .before .before .before .pre in
+    let at-pre = c .before .before .before .before .before .pre in
     (omega arith, (at-pre .1 .0, (at-pre .1 .1 .0, omega arith))))
     (λ c. search needs)  -- enum-known-one
-    (λ c. search needs)  -- sub-check-row
-    (λ c κs.  -- check-row-requires
-    let at-pre = c .before .before .before .before .before .before .before .before .pre in
-    let at-check-at = c .before .before .before .check-at in
-    (omega arith, (at-pre .1 .0, (at-pre .1 .1 .0, (at-pre .1 .1 .1 .0, (next-within _ _ _ _ _ _ (at-check-at .ensures) (c .before .one .given .1), omega arith))))))
     (λ c. search needs)  -- enum-known-one-2
-    (λ c.  -- returns-2
-    let at-if1 = c .before .before .before .before .before .if1 in
-    let at-check-at = c .before .before .before .before .check-at in
-    let at-one = c .before .before .one in
-    row-more _ _ _ _ _ _ _ _ _ (at-if1 .left) (at-check-at .ensures) (at-one .given .1)
-    (c .check-row .ensures))
-    (λ c.  -- returns-3
-    let at-if1 = c .before .before .before .before .if1 in
-    let at-check-at = c .before .before .before .check-at in
-    row-stops _ _ _ _ _ _ _ _ (at-if1 .left) (at-check-at .ensures) (c .before .one2 .given .1))
+    (λ c.  -- returns
+    let at-loop = c .before .before .before .before .before .loop in
+    let at-test = c .before .before .before .before .loop-test in
+    row-stops _ _ _ _ _ _ _ _ (at-loop .inv .1) (at-test .taken) _ (c .before .before .before .check-at .ensures) _
+    (c .before .one2 .given .1))
+    (λ c. search needs)  -- sub-rest
+    (λ c. search needs)  -- loop-less
+    (λ c.  -- loop-again
+    let at-loop = c .before .before .before .before .before .loop in
+    let at-test = c .before .before .before .before .loop-test in (
+      omega arith,
+      row-next _ _ _ _ _ _ _ _ (at-loop .inv .1) (at-test .taken) _ (c .before .before .before .check-at .ensures) _
+          (c .before .one .given .1),
+    ))
+    (λ c. row-end _ _ _ _ _ _ _ _ (c .before .loop .inv .1) (c .loop-test .left))  -- returns-2
 
 abbrev check-slots-calls : ℕ → check-slots-lts.Claims
-check-slots-calls t = (slots-reads.Asked, slots-reads.Learnt, slot-reads.Asked, slot-reads.Learnt, check-at-below t, check-at.Post, check-slots-below t, check-slots.Post)
+check-slots-calls t = (slots-reads.Asked, slots-reads.Learnt, slot-reads.Asked, slot-reads.Learnt, check-at-below t, check-at.Post)
+
+-- along the slots: from slot s on is left
+abbrev check-slots-Inv-loop : check-slots-lts.InvT-loop
+check-slots-Inv-loop tree text table index k left n next₀ s₀ next s =
+    (s ≤ n)
+    × Along tree text index (map (place (65 - left)) (slotsOf (shape k))) next (map (place (65 - left)) (drop s (slotsOf (shape k))))
+
+abbrev check-slots-μ-loop : check-slots-lts.MeasureT-loop
+check-slots-μ-loop tree text table index k left n next₀ s₀ next s = n - s
 
 check-slots-met : {M : Type 1} (t : ℕ) → check-slots-lts.Closed (check-slots-calls t) (check-slots-at t) check-slots.Post M
 check-slots-met t =
-    check-slots-lts.spec (check-slots-calls t) (check-slots-at t) check-slots.Post
+    check-slots-lts.spec (check-slots-calls t) (check-slots-at t) check-slots.Post check-slots-Inv-loop check-slots-μ-loop
     (λ c κs. search needs)  -- slots-requires
-    (λ c.  -- returns
-    let at-args = c .before .before .before .before .before .args in
-    let at-pre = c .before .before .before .before .before .pre in
-    slots-none (at-args .table .now) (at-args .tree .now) (at-args .text .now) _ _ _ _ (at-pre .1 .0)
-    (at-pre .1 .1 .0) _ (c .before .slots .ensures) (c .if1 .taken) (at-pre .1 .1 .1 .1))
+    (λ c.  -- loop-holds
+    let at-pre = c .before .before .before .before .pre in
+    (omega arith, along-start _ _ _ _ (at-pre .1 .1 .1 .1)))
+    (λ c. search needs)  -- cast-loop
     (λ c κs. search needs)  -- slot-requires
     (λ c.  -- cast-check-at
-    let at-args = c .before .before .before .before .before .before .args in
-    let at-pre = c .before .before .before .before .before .before .pre in
-    let at-slots = c .before .before .slots in
-    omega
-    (arith, slot-small (at-args .table .now) (at-args .tree .now) (at-args .text .now) 0 0 _ _ (at-pre .1 .0) (at-pre .1 .1 .0) _ (at-slots .ensures) _ (c .slot .ensures) (search needs)))
+    let at-pre = c .before .before .before .before .before .before .before .pre in
+    let at-args = c .before .before .before .before .before .before .before .args in
+    let at-slots = c .before .before .before .slots in
+    let at-test = c .before .loop-test in
+    let at-slot = c .slot in
+    omega (arith, slot-small (at-args .table .now) _ _ (at-pre .1 .0) (at-pre .1 .1 .0) _ (at-slots .ensures) _ (at-slot .ensures) (at-test .taken)))
     (λ c κs.  -- check-at-requires
+    let at-pre = c .before .before .before .before .before .before .before .pre in
+    let at-args = c .before .before .before .before .before .before .before .args in
+    let at-slots = c .before .before .before .slots in
+    let at-test = c .before .loop-test in
+    let at-slot = c .slot in
+    (omega arith, (at-pre .1 .0, (slot-small (at-args .table .now) _ _ (at-pre .1 .0) (at-pre .1 .1 .0) _ (at-slots .ensures) _ (at-slot .ensures) (at-test .taken), omega arith))))
+    (λ c. search needs)  -- enum-known-one
+    (λ c. search needs)  -- enum-known-one-2
+    (λ c.  -- returns
+    let at-pre = c .before .before .before .before .before .before .before .before .before .before .before .pre in
+    let at-args = c .before .before .before .before .before .before .before .before .before .before .before .args in
+    let at-slots = c .before .before .before .before .before .before .before .slots in
+    let at-test = c .before .before .before .before .before .loop-test in
+    let at-slot = c .before .before .before .before .slot in
+    let at-loop = c .before .before .before .before .before .before .loop in
+    slots-stop (at-args .table .now) _ _ (at-pre .1 .0) (at-pre .1 .1 .0) _ (at-slots .ensures)
+    _ (at-slot .ensures) (at-test .taken) _ _ _ _ _ _ (at-loop .inv .1) _ (c .before .before .before .check-at .ensures) _ (c .before .one2 .given .1))
+    (λ c.  -- add-s
+    let at-pre = c .before .before .before .before .before .before .before .before .before .before .before .pre in
+    let at-args = c .before .before .before .before .before .before .before .before .before .before .before .args in
+    let at-slots = c .before .before .before .before .before .before .before .slots in
+    let at-test = c .before .before .before .before .before .loop-test in
+    let at-slot = c .before .before .before .before .slot in
+    omega (arith, slot-next (at-args .table .now) _ _ (at-pre .1 .0) (at-pre .1 .1 .0) _ (at-slots .ensures) _ (at-slot .ensures) (at-test .taken)))
+    (λ c. search needs)  -- loop-less
+    (λ c.  -- loop-again
+    let at-pre = c .before .before .before .before .before .before .before .before .before .before .before .pre in
+    let at-args = c .before .before .before .before .before .before .before .before .before .before .before .args in
+    let at-slots = c .before .before .before .before .before .before .before .slots in
+    let at-test = c .before .before .before .before .before .loop-test in
+    let at-slot = c .before .before .before .before .slot in
+    let at-loop = c .before .before .before .before .before .before .loop in (
+      omega arith,
+      slots-next (at-args .table .now) _ _ (at-pre .1 .0) (at-pre .1 .1 .0) _ (at-slots .ensures)
+          _ (at-slot .ensures) (at-test .taken) _ _ _ _ _ _ (at-loop .inv .1) _ (c .before .before .before .check-at .ensures) _ (c .before .one .given .1),
+    ))
+    (λ c.  -- returns-2
     let at-pre = c .before .before .before .before .before .before .pre in
     let at-args = c .before .before .before .before .before .before .args in
-    let at-slots = c .before .before .slots in
-    (omega arith, (at-pre .1 .0, (slot-small (at-args .table .now) (at-args .tree .now) (at-args .text .now) 0 0 _ _ (at-pre .1 .0) (at-pre .1 .1 .0) _ (at-slots .ensures) _ (c .slot .ensures) (search needs), omega arith))))
-    (λ c. search needs)  -- enum-known-one
-    (λ c.  -- add-check-slots
-    let at-args = c .before .before .before .before .before .before .before .before .before .before .args in
-    let at-pre = c .before .before .before .before .before .before .before .before .before .before .pre in
-    let at-slots = c .before .before .before .before .before .before .slots in
-    let at-slot = c .before .before .before .before .slot in
-    omega
-    (arith, slot-next (at-args .table .now) (at-args .tree .now) (at-args .text .now) 0 0 _ _ (at-pre .1 .0) (at-pre .1 .1 .0) _ (at-slots .ensures) _ (at-slot .ensures) (search needs)))
-    (λ c κs.  -- check-slots-requires
-    let at-pre = c .before .before .before .before .before .before .before .before .before .before .pre in
-    let at-check-at = c .before .before .before .check-at in
-    (omega arith, (at-pre .1 .0, (at-pre .1 .1 .0, (at-pre .1 .1 .1 .0, next-within _ _ _ _ _ _ (at-check-at .ensures) (c .before .one .given .1))))))
-    (λ c. search needs)  -- enum-known-one-2
-    (λ c.  -- returns-2
-    let at-args = c .before .before .before .before .before .before .before .before .before .before .before .args in
-    let at-pre = c .before .before .before .before .before .before .before .before .before .before .before .pre in
-    let at-slots = c .before .before .before .before .before .before .before .slots in
-    let at-slot = c .before .before .before .before .before .slot in
-    let at-if1 = c .before .before .before .before .before .before .if1 in
-    let at-check-at = c .before .before .before .before .check-at in
-    let at-one = c .before .before .one in
-    slots-more (at-args .table .now) _ _ _ _ _ _ (at-pre .1 .0) (at-pre .1 .1 .0) _ (at-slots .ensures)
-    _ (at-slot .ensures) (at-if1 .left) _ _ _ (at-check-at .ensures) (at-one .given .1)
-    (c .check-slots .ensures))
-    (λ c.  -- returns-3
-    let at-args = c .before .before .before .before .before .before .before .before .before .before .args in
-    let at-pre = c .before .before .before .before .before .before .before .before .before .before .pre in
-    let at-slots = c .before .before .before .before .before .before .slots in
-    let at-slot = c .before .before .before .before .slot in
-    let at-if1 = c .before .before .before .before .before .if1 in
-    let at-check-at = c .before .before .before .check-at in
-    slots-stop (at-args .table .now) _ _ _ _ _ _ (at-pre .1 .0) (at-pre .1 .1 .0) _ (at-slots .ensures)
-    _ (at-slot .ensures) (at-if1 .left) _ _ (at-check-at .ensures) (c .before .one2 .given .1))
+    slots-end (at-args .table .now) _ _ (at-pre .1 .0) (at-pre .1 .1 .0) _ (c .before .before .slots .ensures)
+    _ _ _ _ _ _ (c .before .loop .inv .1) (c .loop-test .left))
 
 pub +check-at+check-below+check-row+check-slots-spec : {M : Type 1} → statement M
 +check-at+check-below+check-row+check-slots-spec = close μ-check-at μ-check-below μ-check-row μ-check-slots check-at-met check-below-met check-row-met check-slots-met
