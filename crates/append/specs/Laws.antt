@@ -2,10 +2,10 @@
 use Prim.Native.Nat.{ℕ, _+_, _-_, _^_, _≤_, _<_}
 use native.Mathlib.Omega.{arith}
 use mathlib.Core.Path.{_≡_, refl, _∙_, ap, sym}
-use mathlib.Core.List.{List, [], _∷_, _++_}
-use mathlib.Core.Bool.{Bool, true, false, not, cond, _&&_, _||_}
-use lib.Dec.{ltb, eqb}
-use lib.ListN.{length, length-append}
+use mathlib.Core.List.{List, [], _∷_}
+use mathlib.Core.Bool.{Bool, true, false, not, cond, _&&_}
+use lib.Dec.{ltb}
+use lib.ListN.{length}
 use lib.Seq.{sets, sets-eq}
 use borrow.Rule.Slice.PartMut.{midOf, putMid}
 use native.Mathlib.Nat.{zero-add}
@@ -17,14 +17,13 @@ use Rattle.utf8.specs.Decided.{decided}
 use Rattle.utf8.specs.declared.Encoding.{Encoding}
 use Rattle.spelling.specs.Spelling.{known, spelling}
 use Rattle.spelling.specs.Table.{bytes, spellingIn}
-use Rattle.spelling.specs.Token.{TK-BLOB}
-use Rattle.spelling.specs.Laws.{spells, short}
+use Rattle.spelling.specs.Laws.{spells}
 use Rattle.laws.specs.First.{first, within, first-some, first-none, all-passed}
-use Rattle.laws.specs.Text.{ascii}
 use Rattle.laws.specs.Sets.{sets-within}
-use Rattle.stream.specs.Stream.{Value, none, some, tight, gap, blob, written, added, adds, leaves}
+use Rattle.stream.specs.Stream.{added, adds, leaves}
 use Rattle.stream.specs.Sink.{State, most, pour, mark, step, given}
 use Rattle.stream.specs.Laws.{count-fits}
+use Rattle.stream.specs.Length.{adds-length, given-size}
 use Rattle.append.specs.declared.Stream.{Stream}
 use Rattle.append.specs.declared.Answer.{Answer}
 use Rattle.append.specs.declared.Answer.the-variants.{Added, Malformed, Unknown, TooLong, Broken, NoRoom}
@@ -76,51 +75,10 @@ emits x b p part value word token k ek ep e = rw (ek, ep) at e
 pub word-is : (table word : List ℕ) (token k : ℕ) → table ≡ bytes → k ≡ numberOf token → word ≡ spellingIn table k → word ≡ spelling (numberOf token)
 word-is table word token k t e w = rw (t, e) at w ∙ spells (numberOf token)
 
--- ---- how many they are
-size : Value → ℕ
-size none = 0
-size (some v) = length v
-
-gap-length : (b : Bool) (k : ℕ) → length (gap b k) ≤ 1
-unfolding gap
-gap-length b k = by (b || tight k)
-  where
-    by : (t : Bool) → length (cond t [] (ascii " ")) ≤ 1
-    by true = omega arith
-    by false = omega arith
-
-blob-length : (v : Value) → length (blob v) ≤ 3 + size v
-unfolding blob size
-blob-length none = omega arith
-blob-length (some v) = omega arith
-
-written-length : (v : Value) → length (written v) ≤ size v
-unfolding written size
-written-length none = omega arith
-written-length (some v) = omega arith
-
-given-size : (p : Bool) (v : List ℕ) → size (given p v) ≤ length v
-unfolding size
-given-size true v = omega arith
-given-size false v = omega arith
-
-added-length : (b : Bool) (k : ℕ) (w : List ℕ) (v : Value) → length (added b k w v) ≤ 4 + length w + size v
-unfolding added
-added-length b k w v =
-    let g = gap-length b k in
-    rw (length-append (gap b k) (cond (eqb k TK-BLOB) (blob v) (w ++ written v)))
-    (by (eqb k TK-BLOB))
-  where
-    by : (t : Bool) → length (gap b k) + length (cond t (blob v) (w ++ written v)) ≤ 4 + length w + size v
-    by true = omega (arith, gap-length b k, blob-length v)
-    by false = omega (arith, gap-length b k, written-length v, length-append w (written v))
-
--- so a count never stops short of them
+-- ---- how many they are: a count never stops short of them
 pub news-counted : (b : Bool) (token : ℕ) (value : List ℕ) → length value < 2 ^ 63 → length (adds b (tokenOf token value)) ≤ most
-unfolding adds tokenOf
-news-counted b token value h =
-    let k = numberOf token in
-    omega (arith, added-length b k (spelling k) (given (present token) value), short k, given-size (present token) value)
+unfolding tokenOf
+news-counted b token value h = omega (arith, adds-length b (tokenOf token value), given-size (present token) value)
 
 pub counts : (x : State) (b : Bool) (token : ℕ) (word value : List ℕ) → x ≡ emitted b [] token word value → x .0 .at ≡ counted b token word value
 unfolding counted
@@ -232,7 +190,7 @@ either true x y p q = p
 either false x y p q = q
 
 answer-small : (e : Encoding) (rec : Stream) (out : List ℕ) (token : ℕ) (value : List ℕ) → Encoded value e → Small (answerTo e rec out token value)
-unfolding answerTo before room news adds tokenOf
+unfolding answerTo before room news tokenOf
 answer-small e rec out token value h =
     either (ltb (length out) (rec .count)) _ _ (omega arith)
     (either (not (known (numberOf token))) _ _ (omega arith)
@@ -246,8 +204,7 @@ answer-small e rec out token value h =
     by true q = omega arith
     by false q =
         let l : length value ≤ longest = ltb-false longest (length value) q in
-        let k = numberOf token in
-        let s : n < 2 ^ 32 = omega (arith, added-length (rec .spaced) k (spelling k) (given (present token) value), short k, given-size (present token) value) in
+        let s : n < 2 ^ 32 = omega (arith, adds-length (rec .spaced) (tokenOf token value), given-size (present token) value) in
         either (broken e) _ _ (omega (arith, place-within value e h)) (either (ltb (length out - rec .count) n) _ _ s s)
 
 pub place-small : (rec : Stream) (out : List ℕ) (token : ℕ) (value : List ℕ) (a : Answer) (rec′ : Stream) (out′ : List ℕ) → Appends rec out token value a rec′ out′ → place a < 2 ^ 32

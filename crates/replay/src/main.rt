@@ -3,9 +3,8 @@
 // A case is a byte, the number of its tokens, and the tokens. A token is its word and the length of its value, each of
 // two bytes, little-endian, and the value's bytes.
 ghost use mathlib.Core.Path.{_≡_};
-ghost use Prim.Native.Nat.{_*_, _≤_, _<_};
+ghost use Prim.Native.Nat.{_≤_};
 ghost use lib.ListN.{length};
-ghost use Rattle.io.specs.Counts.{Counts};
 ghost use Rattle.replay.specs.Case.{room, Within};
 use append::Answer;
 use append::Stream;
@@ -16,8 +15,6 @@ use libc::STDOUT_FILENO;
 const HEAD: usize = 4;
 // The bytes that a case may write, and more than a value may have.
 const TEXT: usize = 65536;
-// Their digits.
-const DIGITS: usize = 2 * TEXT;
 
 // How a case stands.
 enum Case {
@@ -98,48 +95,13 @@ fn replay_tokens(tokens: u8, text: &mut [u8; TEXT]) -> Case
     case
 }
 
-// The hexadecimal digit of a number below 16.
-fn digit(n: u8) -> u8
-    requires { ⌜ n < 16 ⌝ }
-{
-    if n < 10 { b'0' + n } else { b'a' + (n - 10) }
-}
-
-// Puts the digits of some bytes at the start of digits, and answers how many there are.
-fn hex(bytes: &[u8], digits: &mut [u8]) -> usize
-    requires { ⌜ 2 * length (now bytes) ≤ length (now digits) ⌝ }
-    ensures { λ r. ⌜ Counts r (now (digits .exit)) ⌝ }
-{
-    let mut i = 0;
-    while i < bytes.len() {
-        let byte = bytes[i];
-        digits[2 * i] = digit(byte / 16);
-        digits[2 * i + 1] = digit(byte % 16);
-        i += 1;
-    }
-    2 * i
-}
-
-// Prints some bytes in hex, or `-` for none.
-fn print_bytes(bytes: &[u8])
-    requires { ⌜ length (now bytes) ≤ room ⌝ }
-{
-    if bytes.len() == 0 {
-        io::write_all(STDOUT_FILENO, b"-");
-        return;
-    }
-    let mut digits = [0u8; DIGITS];
-    let n = hex(bytes, &mut digits);
-    io::write_all(STDOUT_FILENO, &digits[..n]);
-}
-
 // Prints the line of a case that was written, whose bytes are at the start of text.
 fn print_written(rec: Stream, text: &[u8])
     requires { ⌜ rec .count ≤ room ⌝ }
     requires { ⌜ length (now text) ≡ room ⌝ }
 {
     let count = rec.count;
-    print_bytes(&text[..count]);
+    lines::print_bytes(&text[..count]);
     if rec.spaced {
         io::write_all(STDOUT_FILENO, b" 1\n");
     } else {

@@ -12,9 +12,9 @@ use borrow.Author.Tests.{eq-eqb, ne-eqb, leb-true, leb-false}
 use Rattle.laws.specs.Sets.{sets-append, sets-past}
 use Rattle.laws.specs.Text.{ascii}
 use Rattle.spelling.specs.Token.{TK-BLOB}
-use Rattle.blank.specs.Blank.{allBlank}
-use Rattle.stream.specs.Stream.{Value, tight, opens, gap, gapped, blob, spelledBit, written, valuedBit, added, left}
-use Rattle.stream.specs.Sink.{State, most, count, pour, mark, step, given}
+use Rattle.blank.specs.Blank.{blank, allBlank}
+use Rattle.stream.specs.Stream.{Value, some, tight, opens, gap, gapped, blob, spelledBit, written, valuedBit, added, left}
+use Rattle.stream.specs.Sink.{State, most, count, pour, mark, step, given, between}
 
 -- counting
 pub count-none : (at : ℕ) → at ≤ most → count at 0 ≡ at
@@ -32,6 +32,10 @@ count-full at n h = omega arith
 count-more : (at a b : ℕ) → count (count at a) b ≡ count at (a + b)
 unfolding count
 count-more at a b = omega arith
+
+pub count-within : (at n : ℕ) → count at n ≤ most
+unfolding count
+count-within at n = omega arith
 
 -- pouring
 pub pour-none : (st : State) → st .0 .at ≤ most → pour st [] ≡ st
@@ -115,7 +119,7 @@ beside : (st : State) (x : Bool) (b : List ℕ) → pour (mark st x) b ≡ mark 
 unfolding pour mark
 beside st x b = refl
 
-then : (st : State) (a b : List ℕ) (x : Bool) → length (st .1) ≤ most → pour (mark (pour st a) x) b ≡ mark (pour st (a ++ b)) x
+pub then : (st : State) (a b : List ℕ) (x : Bool) → length (st .1) ≤ most → pour (mark (pour st a) x) b ≡ mark (pour st (a ++ b)) x
 then st a b x h = beside (pour st a) x b ∙ ap (λ (s : State). mark s x) (pour-more st a b h)
 
 again : (st : State) (a b : Bool) → mark (mark st a) b ≡ mark st b
@@ -144,3 +148,14 @@ step-other st t u r k w v h g e p q =
     rw (p, g, the-bit (pour st (gap s k)) (gapped s k), then st (gap s k) w (gapped s k) h) (again (pour st (gap s k ++ w)) (gapped s k) b) in
     rw (ne-eqb k TK-BLOB e, q, u′, the-bit (pour st (gap s k ++ w)) b, then st (gap s k ++ w) (written v) b h, append-assoc)
     (again (pour st (gap s k ++ (w ++ written v))) b (valuedBit b v))
+
+-- a value between quotes: its pieces are poured one behind the other, and it is no blank one
+pub quotes-poured : (u x y z : State) (v : List ℕ) → length (u .1) ≤ most → x ≡ pour u (ascii "'") → y ≡ pour x v → z ≡ pour y (ascii "'") → z ≡ pour u (between v)
+quotes-poured u x y z v h p q r =
+    let l : length (x .1) ≤ most = rw (p, pour-length u (ascii "'")) h in
+    let m : z ≡ pour x (v ++ ascii "'") = rw (r, q) (pour-more x v (ascii "'") l) in
+    rw (m, p, pour-more u (ascii "'") (v ++ ascii "'") h)
+
+pub quotes-one : (u z : State) (v : List ℕ) → z ≡ pour u (between v) → mark z false ≡ mark (pour u (written (some (between v)))) (valuedBit (u .0 .spaced) (some (between v)))
+unfolding written valuedBit allBlank blank
+quotes-one u z v h = rw h

@@ -1,4 +1,5 @@
 pub mod Stream
 pub mod Sink
 pub mod Laws
+pub mod Length
 pub mod Cases

@@ -1,9 +1,10 @@
 -- The sink takes everything: a byte that finds no room in the output is only counted.
 use Prim.Native.Nat.{ℕ, _+_, min}
-use mathlib.Core.List.{List}
+use mathlib.Core.List.{List, _++_}
 use mathlib.Core.Bool.{Bool, true, false}
 use lib.ListN.{length}
 use lib.Seq.{sets}
+use Rattle.laws.specs.Text.{ascii}
 use Rattle.stream.specs.Stream.{Value, none, some, added, left}
 use Rattle.stream.specs.declared.Sink.{Sink}
 
@@ -33,3 +34,7 @@ step st k w v = mark (pour st (added (st .0 .spaced) k w v)) (left (st .0 .space
 abbrev pub given : Bool → List ℕ → Value
 given true v = some v
 given false v = none
+
+-- a value between quotes
+abbrev pub between : List ℕ → List ℕ
+between v = ascii "'" ++ v ++ ascii "'"

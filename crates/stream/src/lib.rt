@@ -6,8 +6,9 @@ ghost use mathlib.Core.Path.{_≡_};
 ghost use Prim.Native.Nat.{_+_, _≤_};
 ghost use lib.ListN.{length};
 ghost use lib.Seq.{sets};
-ghost use Rattle.stream.specs.Stream.{tight as tight', opens as opens', gap as gap', gapped, blob as blob', spelledBit, written, valuedBit};
-ghost use Rattle.stream.specs.Sink.{count, pour, mark, given, step};
+ghost use Rattle.stream.specs.Stream.{some, tight as tight', opens as opens', gap as gap', gapped, blob as blob', spelledBit, written, valuedBit};
+ghost use Rattle.spelling.specs.Token.{TK-STRING};
+ghost use Rattle.stream.specs.Sink.{count, pour, mark, given, between, step};
 use spelling::token::TK_BLOB;
 use spelling::token::TK_COMMA;
 use spelling::token::TK_DOT;
@@ -16,6 +17,7 @@ use spelling::token::TK_LP;
 use spelling::token::TK_RBRACKET;
 use spelling::token::TK_RP;
 use spelling::token::TK_SEMI;
+use spelling::token::TK_STRING;
 
 const MOST: usize = 0xffff_ffff_ffff_ffff;
 
@@ -148,5 +150,27 @@ pub fn append(s: Sink, out: &mut [u8], kind: u16, word: &[u8], has: bool, value:
     } else {
         let u = spell(t, out, kind, word);
         valued(u, out, has, value)
+    }
+}
+
+// A value between quotes.
+fn in_quotes(s: Sink, out: &mut [u8], value: &[u8]) -> Sink
+    ensures { λ r. ⌜ (r, now (out .exit)) ≡ pour (s, now (out .entry)) (between (now (value .entry))) ⌝ }
+{
+    let t = put(s, out, b"'");
+    let t = put(t, out, value);
+    put(t, out, b"'")
+}
+
+// TK_STRING, whose fixed spelling is word, with a value between quotes.
+pub fn quoted(s: Sink, out: &mut [u8], word: &[u8], value: &[u8]) -> Sink
+    ensures { λ r. ⌜ (r, now (out .exit)) ≡ step (s, now (out .entry)) TK-STRING (now (word .entry)) (some (between (now (value .entry)))) ⌝ }
+{
+    let t = gap(s, out, TK_STRING);
+    let u = spell(t, out, TK_STRING, word);
+    let v = in_quotes(u, out, value);
+    Sink {
+        spaced: false,
+        at: v.at,
     }
 }

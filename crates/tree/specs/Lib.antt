@@ -3,4 +3,5 @@ pub mod Walk
 pub mod Laws
 pub mod Steps
 pub mod Whole
+pub mod Bounds
 pub mod Examples

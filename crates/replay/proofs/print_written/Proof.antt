@@ -2,7 +2,6 @@
 use mathlib.Core.Path.{sym}
 use native.Mathlib.Omega.{arith}
 use lib.Seq.{length-take-le}
-use lib.ListN.{length-take}
 use borrow.Author.Needs.{needs}
 use Rattle.replay.proofs.print_written.Statement.{statement}
 use Rattle.replay.proofs.print_written.Tie as tie
@@ -10,12 +9,9 @@ use Rattle.replay.proofs.print_written.Tie as tie
 slice-aggregate-print-bytes : tie.Need-slice-aggregate-print-bytes
 slice-aggregate-print-bytes c = sym (length-take-le _ _ (omega arith))
 
-print-bytes-requires : tie.Need-print-bytes-requires
-print-bytes-requires c κs = simp length-take (omega arith)
-
 pub print-written-spec : {M : Type 1} → statement M
 print-written-spec =
     tie.close
     (tie.spec
-    slice-aggregate-print-bytes print-bytes-requires (λ c. search needs) (λ c κs. search needs)
+    slice-aggregate-print-bytes (λ c κs. search needs) (λ c. search needs) (λ c κs. search needs)
     (λ c. search needs) (λ c κs. search needs) (λ c. search needs) (λ c. search needs))

@@ -1,4 +1,4 @@
--- `replay_trees::put_number` meets its contract: a number of 64 bits has at most 20 digits. The measure is the count of digits that are left.
+-- `lines::put_number` meets its contract: a number of 64 bits has at most 20 digits. The measure is the count of digits that are left.
 use Prim.Native.Nat.{ℕ, _≤_, _<_, _-_, _^_}
 use mathlib.Core.Path.{_≡_}
 use native.Mathlib.Nat.{pow-le-pow-right}
@@ -6,8 +6,8 @@ use native.Mathlib.Omega.{arith}
 use lib.Dec.{ltb, ltb→lt, nltb→le, not-T}
 use lib.ListN.{length}
 use borrow.Author.Needs.{needs}
-use Rattle.replay_trees.proofs.put_number.Statement.{statement}
-use Rattle.replay_trees.proofs.put_number.Tie as tie
+use Rattle.lines.proofs.put_number.Statement.{statement}
+use Rattle.lines.proofs.put_number.Tie as tie
 
 at-most-20 : (n k : ℕ) → n < 2 ^ 64 → (1 < k → 10 ^ (k - 1) ≤ n) → k ≤ 20
 at-most-20 n k fits least =

@@ -1,11 +1,11 @@
--- `replay::hex` meets its contract: the byte at i has its digits at 2 * i and 2 * i + 1. The measure is the count of bytes that are left.
+-- `lines::hex` meets its contract: the byte at i has its digits at 2 * i and 2 * i + 1. The measure is the count of bytes that are left.
 use Prim.Native.Nat.{_≤_, _-_}
 use mathlib.Core.Path.{_≡_}
 use native.Mathlib.Omega.{arith}
 use lib.ListN.{length, length-set, length-take}
 use borrow.Author.Needs.{needs}
-use Rattle.replay.proofs.hex.Statement.{statement}
-use Rattle.replay.proofs.hex.Tie as tie
+use Rattle.lines.proofs.hex.Statement.{statement}
+use Rattle.lines.proofs.hex.Tie as tie
 
 abbrev Inv-loop : tie.InvT-loop
 Inv-loop bytes digits₀ i₀ digits i = (i ≤ length bytes) × (length digits ≡ length digits₀)
