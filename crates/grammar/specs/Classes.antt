@@ -3,9 +3,9 @@ use Prim.Native.Nat.{ℕ}
 use mathlib.Core.Path.{_≡_, refl}
 use mathlib.Core.List.{List, [], _∷_}
 use lib.ListN.{getD}
-use Rattle.grammar.specs.Kind.{TOKEN, SelectBody, CompoundSelect, JoinedTable, On, Using, RenameTo, ColumnsAndConstraints, AsSelect, PrimaryKey, ForeignKeyClause, CommonTableExpr, Struct, Union, CustomType, TypeField, TypeParam, OperatorClause, DomainConstraint, Pair, REPLACE, NamedTableConstraint}
+use Rattle.grammar.specs.Kind.{TOKEN, SelectBody, CompoundSelect, JoinedTable, On, Using, RenameTo, ColumnsAndConstraints, AsSelect, PrimaryKey, ForeignKeyClause, CommonTableExpr, Struct, Union, CustomType, TypeField, TypeParam, OperatorClause, DomainConstraint, Pair, NamedTableConstraint}
 use Rattle.grammar.specs.Shape.{Class, one, list, small}
-use Rattle.grammar.specs.Grammar.{from, run, text, number, node, maybe, statement, select, oneSelect, fromClause, selectTable, with, columnDefinition, typeName, rootKinds, root}
+use Rattle.grammar.specs.Grammar.{from, run, text, number, node, maybe, statement, select, oneSelect, fromClause, selectTable, with, columnDefinition, conflict, typeName, rootKinds, root}
 
 unfoldable pub classes : List Class
 classes =
@@ -24,7 +24,7 @@ classes =
     ∷ node (ColumnsAndConstraints ∷ AsSelect ∷ [])  -- 12
     ∷ select  -- 13
     ∷ maybe with  -- 14
-    ∷ maybe (node (REPLACE ∷ []))  -- 15
+    ∷ conflict  -- 15
     ∷ maybe fromClause  -- 16
     ∷ text  -- 17
     ∷ node (Struct ∷ Union ∷ CustomType ∷ [])  -- 18

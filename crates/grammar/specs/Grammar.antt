@@ -52,6 +52,10 @@ selectTable = node (Table ∷ TableCall ∷ TableSelect ∷ Sub ∷ [])
 abbrev pub with : Class
 with = node (With ∷ [])
 
+-- "119 REPLACE (only for Insert's conflict)"
+abbrev pub conflict : Class
+conflict = maybe (node (REPLACE ∷ []))
+
 abbrev pub columnDefinition : Class
 columnDefinition = node (ColumnDefinition ∷ [])
 
@@ -244,8 +248,7 @@ table =
     ∷ (
       Insert,
       slot (maybe with)
-          · replacing (word TK-REPLACE) (word TK-INSERT · given (word TK-OR))
-          · slot (maybe (node (REPLACE ∷ [])))
+          · replacing (word TK-REPLACE · slot conflict) (word TK-INSERT · given (word TK-OR · slot conflict))
           · word TK-INTO
           · slot run
           · filled (parens (commas run))

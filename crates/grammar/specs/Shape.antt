@@ -29,7 +29,7 @@ pub data Shape : Type 0 where
   tuples : Class → Shape  -- the next child, a LIST of LISTs: each in brackets and with commas, commas between
   given : Shape → Shape  -- unless the next child is NONE
   filled : Shape → Shape  -- unless the next child is an empty LIST
-  replacing : Shape → Shape → Shape  -- where the next child is REPLACE, and where it is not
+  replacing : Shape → Shape → Shape  -- where the next child is REPLACE, and where it is not; both hold the same
   decimal : Shape  -- the next child, a NUMBER or NONE, as TK_ID
   brackets : Shape  -- the next child, a small NUMBER: so many pairs of brackets
   quoted : Shape  -- the next child, a TEXT, as TK_STRING between quotes

@@ -1,0 +1,5 @@
+pub mod Corners
+pub mod Tokens
+pub mod Weights
+pub mod Bound
+pub mod Cases
