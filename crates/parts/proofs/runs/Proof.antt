@@ -1,0 +1,46 @@
+-- `parts::runs` writes a row of RUNs: what is left of it from here is what was to be written at the start.
+use borrow.Author.Needs.{needs}
+use mathlib.Core.Path.{_≡_, refl, _∙_}
+use mathlib.Core.List.{[]}
+use Prim.Native.Nat.{ℕ}
+use Rattle.record.specs.Laws as records
+use Rattle.grammar.specs.Grammar.{run}
+use Rattle.tokens.specs.Tokens.{rows, placed, comma, means, node}
+use Rattle.pen.specs.Pen.{source, put}
+use Rattle.pen.specs.Laws.{puts-length}
+use Rattle.pen.specs.Rows.{opt, row-first, row-done}
+use Rattle.parts.proofs.runs.Statement.{statement}
+use Rattle.parts.proofs.runs.Tie as tie
+
+abbrev Inv-loop : tie.InvT-loop
+Inv-loop out₀ words tree text n sep q₀ rest₀ lead₀ out q rest lead =
+    (d : ℕ)
+    → put words (rows (placed (source tree text) (node (source tree text) d) run) (opt lead comma) (opt sep comma) rest (q .next)) (q, out)
+    ≡ put words (rows (placed (source tree text) (node (source tree text) d) run) [] (opt sep comma) n (q₀ .next)) (q₀, out₀)
+
+abbrev μ-loop : tie.MeasureT-loop
+μ-loop out₀ words tree text n sep q₀ rest₀ lead₀ out q rest lead = rest
+
+loop-holds : tie.Need-loop-holds Inv-loop μ-loop
+loop-holds c d = refl
+
+loop-again : tie.Need-loop-again Inv-loop μ-loop
+unfolding means
+loop-again c d =
+    let at-run = c .before .before in
+    let at-comma-if = at-run .before .before .before .before in
+    let at-loop-test = at-comma-if .before .before in
+    let at-loop = at-loop-test .before in
+    row-first _ _ _ _ (at-loop-test .loop-test .taken) (at-comma-if .comma-if .ensures) (at-run .run .ensures d records.nothing .puts) ∙ at-loop .loop .inv d
+
+returns : tie.Need-returns Inv-loop μ-loop
+returns c d =
+    let at-loop = c .before in
+    row-done _ _ _ _ (c .loop-test .left) (at-loop .loop .inv d)
+
+pub runs-spec : {M : Type 1} → statement M
+runs-spec =
+    tie.close
+    (tie.spec
+    Inv-loop μ-loop loop-holds (λ c κs. search needs) (λ c κs. search needs) (λ c. search needs)
+    (λ c. search needs) loop-again (λ c. puts-length (returns c 0)) returns)

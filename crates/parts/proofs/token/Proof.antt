@@ -1,0 +1,30 @@
+-- `parts::token` writes the token that the record is.
+use borrow.Author.Needs.{needs}
+use Rattle.grammar.specs.Kind.{TOKEN}
+use Rattle.parts.specs.Laws.{of-other, a-token}
+use Rattle.parts.proofs.token.Statement.{statement}
+use Rattle.parts.proofs.token.Tie as tie
+
+returns : tie.Need-returns
+returns c =
+    let at-pass = c .before .before in
+    let at-read = at-pass .before in
+    let at-args = at-read .before .before .before .before .before in
+    of-other (at-args .args .text .now) TOKEN (at-read .read .ensures) (at-pass .pass .ensures) _ (c .if1 .taken)
+
+returns-2 : tie.Need-returns-2
+returns-2 c =
+    let at-append = c .before .before in
+    let at-part = at-append .before .before .before .before in
+    let at-if1 = at-part .before .before .before in
+    let at-pass = at-if1 .before .before in
+    let at-read = at-pass .before in
+    let at-args = at-read .before .before .before .before .before in
+    a-token (at-args .args .text .now) (at-read .read .ensures) (at-pass .pass .ensures) (at-if1 .if1 .left) (at-part .part .ensures) (at-append .append .ensures)
+
+pub token-spec : {M : Type 1} → statement M
+token-spec =
+    tie.close
+    (tie.spec
+    (λ c κs. search needs) (λ c κs. search needs) returns (λ c. search needs) (λ c. search needs)
+    (λ c κs. search needs) (λ c κs. search needs) (λ c. search needs) returns-2)
