@@ -1,0 +1,151 @@
+// What a type is made of.
+ghost use mathlib.Core.List.{[], _∷_};
+ghost use Rattle.spelling.specs.Token.{TK-AS};
+ghost use Rattle.grammar.specs.Kind.{Struct, Union, CustomType, TypeField, TypeParam};
+ghost use Rattle.grammar.specs.Shape.{slot, word as word', said as said', commas, filled, _·_};
+ghost use Rattle.grammar.specs.Grammar.{shape, node, parens};
+ghost use Rattle.pen.specs.Pen.{source, Below, WithText};
+ghost use Rattle.clause.specs.Later.{operatorsLater};
+use super::select::list;
+use grammar::kind::CUSTOM_TYPE;
+use grammar::kind::OPERATOR_CLAUSE;
+use grammar::kind::STRUCT;
+use grammar::kind::TYPE_FIELD;
+use grammar::kind::TYPE_PARAM;
+use grammar::kind::UNION;
+use parts::name;
+use parts::run;
+use parts::said_clause;
+use pen::Pen;
+use pen::pass;
+use pen::said;
+use pen::word;
+use spelling::token::TK_AS;
+use spelling::token::TK_LP;
+use spelling::token::TK_RP;
+
+// The fields, in brackets.
+fn fields(p: Pen, out: &mut [u8], words: &[u8], tree: &[u8], text: &[u8], left: usize) -> Pen
+    ensures { λ q. ⌜ Below (source (now (tree .entry)) (now (text .entry))) (now (words .entry)) left (parens (commas (node (TypeField ∷ [])))) (p, now (out .entry)) (q, now (out .exit)) ⌝ }
+{
+    let q = word(p, out, words, TK_LP);
+    let q = list(q, out, words, tree, text, left, TYPE_FIELD, true);
+    word(q, out, words, TK_RP)
+}
+
+// AS, a word and the fields: Struct (111) and Union (112).
+fn type_fields(
+    p: Pen,
+    out: &mut [u8],
+    words: &[u8],
+    tree: &[u8],
+    text: &[u8],
+    left: usize,
+    value: &[u8],
+) -> Pen
+    ensures { λ q. ⌜ WithText (now (value .entry)) (λ v. Below (source (now (tree .entry)) (now (text .entry))) (now (words .entry)) left (word' TK-AS · said' v · parens (commas (node (TypeField ∷ [])))) (p, now (out .entry)) (q, now (out .exit))) ⌝ }
+{
+    let q = word(p, out, words, TK_AS);
+    let q = said(q, out, words, value);
+    fields(q, out, words, tree, text, left)
+}
+
+// The parameters, unless there are none.
+fn params(p: Pen, out: &mut [u8], words: &[u8], tree: &[u8], text: &[u8], left: usize) -> Pen
+    ensures { λ q. ⌜ Below (source (now (tree .entry)) (now (text .entry))) (now (words .entry)) left (filled (parens (commas (node (TypeParam ∷ []))))) (p, now (out .entry)) (q, now (out .exit)) ⌝ }
+{
+    let r = record::read(tree, p.next);
+    if r.kids == 0 {
+        return pass(p, tree);
+    }
+    let q = word(p, out, words, TK_LP);
+    let q = list(q, out, words, tree, text, left, TYPE_PARAM, true);
+    word(q, out, words, TK_RP)
+}
+
+// The operators and the default: held in this order, written in the other.
+fn default_first(p: Pen, out: &mut [u8], words: &[u8], tree: &[u8], text: &[u8], left: usize) -> Pen
+    ensures { λ q. ⌜ Below (source (now (tree .entry)) (now (text .entry))) (now (words .entry)) left (operatorsLater) (p, now (out .entry)) (q, now (out .exit)) ⌝ }
+{
+    let mut nothing = [0u8; 0];
+    let behind = list(
+        p,
+        &mut nothing,
+        words,
+        tree,
+        text,
+        left,
+        OPERATOR_CLAUSE,
+        false,
+    );
+    let start = p.next;
+    let s = p.sink;
+    let q = said_clause(
+        Pen {
+            sink: s,
+            next: behind.next,
+        },
+        out,
+        words,
+        tree,
+        text,
+        b"DEFAULT",
+    );
+    let end = q.next;
+    let s = q.sink;
+    let q = list(
+        Pen {
+            sink: s,
+            next: start,
+        },
+        out,
+        words,
+        tree,
+        text,
+        left,
+        OPERATOR_CLAUSE,
+        false,
+    );
+    let s = q.sink;
+    Pen { sink: s, next: end }
+}
+
+// CustomType (113).
+fn custom_type(p: Pen, out: &mut [u8], words: &[u8], tree: &[u8], text: &[u8], left: usize) -> Pen
+    ensures { λ q. ⌜ Below (source (now (tree .entry)) (now (text .entry))) (now (words .entry)) left (shape CustomType) (p, now (out .entry)) (q, now (out .exit)) ⌝ }
+{
+    let q = params(p, out, words, tree, text, left);
+    let q = said(q, out, words, b"BASE");
+    let q = name(q, out, words, tree, text);
+    let q = said_clause(q, out, words, tree, text, b"ENCODE");
+    let q = said_clause(q, out, words, tree, text, b"DECODE");
+    default_first(q, out, words, tree, text, left)
+}
+
+// CreateTypeBody (111 to 113).
+pub fn create_type_body(
+    p: Pen,
+    out: &mut [u8],
+    words: &[u8],
+    tree: &[u8],
+    text: &[u8],
+    left: usize,
+) -> Pen
+    ensures { λ q. ⌜ Below (source (now (tree .entry)) (now (text .entry))) (now (words .entry)) left (slot (node (Struct ∷ Union ∷ CustomType ∷ []))) (p, now (out .entry)) (q, now (out .exit)) ⌝ }
+{
+    let r = record::read(tree, p.next);
+    if left == 0 {
+        return run(p, out, words, tree, text);
+    }
+    let q = pass(p, tree);
+    if r.kind == STRUCT {
+        return type_fields(q, out, words, tree, text, left - 1, b"STRUCT");
+    }
+    if r.kind == UNION {
+        return type_fields(q, out, words, tree, text, left - 1, b"UNION");
+    }
+    if r.kind == CUSTOM_TYPE {
+        return custom_type(q, out, words, tree, text, left - 1);
+    }
+    run(p, out, words, tree, text)
+}
