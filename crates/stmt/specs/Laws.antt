@@ -1,0 +1,103 @@
+-- Laws of the statements: the two ways of an INSERT, and the groups that the kinds are in.
+use Prim.Native.Nat.{ℕ, zero, suc, _≤_, _<_}
+use native.Mathlib.Omega.{arith}
+use mathlib.Core.Path.{_≡_, refl, _∙_, sym, ap}
+use mathlib.Core.List.{List, [], _∷_, _++_}
+use mathlib.Core.Bool.{Bool, true, false, _||_}
+use lib.Dec.{eqb}
+use borrow.Author.Tests.{eq-eqb, ne-eqb}
+use Rattle.laws.specs.Among.{among}
+use Rattle.spelling.specs.Token.{TK-INSERT, TK-OR, TK-REPLACE}
+use Rattle.record.specs.Record.{recordAt}
+use Rattle.record.specs.declared.Record.{Record}
+use Rattle.grammar.specs.Kind.{RUN, REPLACE, AlterTable, Delete, Savepoint}
+use Rattle.grammar.specs.Shape.{Shape, word, slot, given, replacing, _·_}
+use Rattle.grammar.specs.Grammar.{from, run, maybe, clause, conflict, shape}
+use Rattle.grammar.specs.Slots.{allowed}
+use Rattle.tokens.specs.Tokens.{Source, of, placed, means, node}
+use Rattle.pen.specs.declared.Pen.{Pen}
+use Rattle.pen.specs.Pen.{source, Spot, Past, Writes}
+use Rattle.pen.specs.Laws.{_▹_, puts-next}
+use Rattle.pen.specs.Places.{skipped}
+use Rattle.stmt.specs.Parts.{insertOr}
+use Rattle.stmt.specs.Groups.{before-all, behind-all, among-both, or-none}
+
+-- ---- the kinds of a group
+abbrev firsts : List ℕ
+firsts = RUN ∷ from AlterTable 11
+
+abbrev seconds : List ℕ
+seconds = from Delete 12
+
+abbrev thirds : List ℕ
+thirds = from Savepoint 10
+
+all-three : (k : ℕ) → among k (RUN ∷ from AlterTable 33) ≡ (among k firsts || (among k seconds || among k thirds))
+all-three k = among-both k firsts (seconds ++ thirds) ∙ ap (λ (b : Bool). among k firsts || b) (among-both k seconds thirds)
+
+pub in-first : (k : ℕ) → k < Delete → among k firsts ≡ among k (RUN ∷ from AlterTable 33)
+in-first k h = sym (all-three k ∙ rw (before-all k Delete 12 h, before-all k Savepoint 10 (omega arith)) (or-none (among k firsts)))
+
+pub in-second : (k : ℕ) → Delete ≤ k → k < Savepoint → among k (RUN ∷ seconds) ≡ among k (RUN ∷ from AlterTable 33)
+in-second k h l =
+    sym (all-three k ∙ rw (ne-eqb k RUN (λ e. omega arith), behind-all k AlterTable 11 h, before-all k Savepoint 10 l) (or-none (among k seconds)))
+
+pub in-third : (k : ℕ) → Savepoint ≤ k → among k (RUN ∷ thirds) ≡ among k (RUN ∷ from AlterTable 33)
+in-third k h =
+    sym (all-three k ∙ rw (ne-eqb k RUN (λ e. omega arith), behind-all k AlterTable 11 (omega arith), behind-all k Delete 12 h))
+
+-- ---- REPLACE INTO, or INSERT with or without OR
+node-replace : (e : Source) (d j : ℕ) → node e d REPLACE j ≡ of e j []
+unfolding node means shape
+node-replace e zero j = refl
+node-replace e (suc d) j = refl
+
+-- a word leaves the pen where it is
+stays : {e : Source} {w : List ℕ} {d k : ℕ} {r : Record} {a b : Spot} → Writes e w d r (word k) a b → b .0 .next ≡ a .0 .next
+unfolding means
+stays h = puts-next (h .puts)
+
+module _ {t x w : List ℕ} {d : ℕ} {r : Record} where
+  passed-over : {o : List ℕ} {q s : Pen} → placed (source t x) (node (source t x) d) conflict (q .next) ≡ of (source t x) (q .next) [] → Past t q s
+      → Writes (source t x) w d r (slot conflict) (q, o) (s, o)
+  unfolding means
+  passed-over e past = record { puts = rw e (skipped past x) }
+
+  or-is : {b c : Spot} → placed (source t x) (node (source t x) d) conflict (b .0 .next) ≡ placed (source t x) (node (source t x) d) (maybe run) (b .0 .next)
+      → Writes (source t x) w d r (clause TK-OR run) b c → Writes (source t x) w d r (given (word TK-OR · slot conflict)) b c
+  unfolding means
+  or-is e g = record { puts = rw e (g .puts) }
+
+  replaced : {p : Pen} {o : List ℕ} {c : Spot} → eqb (recordAt t (p .next) .kind) REPLACE ≡ true → Writes (source t x) w d r (word TK-REPLACE · slot conflict) (p, o) c
+      → Writes (source t x) w d r insertOr (p, o) c
+  unfolding means
+  replaced e g = record { puts = rw e (g .puts) }
+
+  inserted : {p : Pen} {o : List ℕ} {c : Spot} → eqb (recordAt t (p .next) .kind) REPLACE ≡ false
+      → Writes (source t x) w d r (word TK-INSERT · given (word TK-OR · slot conflict)) (p, o) c → Writes (source t x) w d r insertOr (p, o) c
+  unfolding means
+  inserted e g = record { puts = rw e (g .puts) }
+
+module _ (t x : List ℕ) (d j : ℕ) (k : Record) (read : k ≡ recordAt t j) where
+  conflict-kind : (b : Bool) → eqb (k .kind) REPLACE ≡ b → eqb (recordAt t j .kind) REPLACE ≡ b
+  conflict-kind b e = rw (← read) e
+
+  replace-placed : (i : ℕ) → i ≡ j → k .kind ≡ REPLACE → placed (source t x) (node (source t x) d) conflict i ≡ of (source t x) i []
+  unfolding placed allowed
+  replace-placed i e z = rw (e, ← read, z) (node-replace (source t x) d j)
+
+  other-placed : (i : ℕ) → i ≡ j → (k .kind ≡ REPLACE → ⊥) → placed (source t x) (node (source t x) d) conflict i ≡ placed (source t x) (node (source t x) d) (maybe run) i
+  unfolding placed allowed
+  other-placed i e z = rw (e, ← read, ne-eqb (k .kind) REPLACE z)
+
+module _ {t x w o : List ℕ} {d : ℕ} {r k : Record} {p : Pen} (read : k ≡ recordAt t (p .next)) where
+  pub replacing-is : {o′ : List ℕ} {q s : Pen} → k .kind ≡ REPLACE → Writes (source t x) w d r (word TK-REPLACE) (p, o) (q, o′) → Past t q s → Writes (source t x) w d r insertOr (p, o) (s, o′)
+  replacing-is {o′} {q} {s} z h past =
+      replaced (conflict-kind t x d (p .next) k read true (eq-eqb (k .kind) REPLACE z))
+      (h ▹ passed-over (replace-placed t x d (p .next) k read (q .next) (stays h) z) past)
+
+  pub replacing-not : {b c : Spot} → (k .kind ≡ REPLACE → ⊥) → Writes (source t x) w d r (word TK-INSERT) (p, o) b → Writes (source t x) w d r (clause TK-OR run) b c
+      → Writes (source t x) w d r insertOr (p, o) c
+  replacing-not {b} {c} z h g =
+      inserted (conflict-kind t x d (p .next) k read false (ne-eqb (k .kind) REPLACE z))
+      (h ▹ or-is (other-placed t x d (p .next) k read (b .0 .next) (stays h) z) g)
