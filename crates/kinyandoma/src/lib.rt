@@ -7,6 +7,9 @@ ghost use Rattle.kinyandoma.specs.Wire.{wellFormed, unpacked, bitOf, pac
 use append::Answer;
 use append::Stream;
 
+// The calls over whole trees.
+pub mod trees;
+
 // 01's numbers of the refusals.
 const MALFORMED: u64 = 1;
 
@@ -18,6 +21,9 @@ const NO_ROOM: u64 = 8;
 
 // The place of an over-long value.
 const LONGEST: u64 = 65536;
+
+// All places are below this number.
+const PLACES: u64 = 0x1_0000_0000;
 
 // A record's bytes: the bit, and the count in eight.
 const RECORD: usize = 9;
@@ -50,12 +56,20 @@ fn place(a: Answer) -> u64
     }
 }
 
+// A number of 01's table and a place as one number.
+fn joined(number: u64, place: u64) -> u64
+    requires { ⌜ (number < 16) × (place < 2 ^ 32) ⌝ }
+    ensures { λ r. ⌜ r ≡ number * 2 ^ 32 + place ⌝ }
+{
+    number * PLACES + place
+}
+
 // An answer as one number.
 fn code(a: Answer) -> u64
     requires { ⌜ place' a < 2 ^ 32 ⌝ }
     ensures { λ r. ⌜ r ≡ code' a ⌝ }
 {
-    number(a) * 0x1_0000_0000 + place(a)
+    joined(number(a), place(a))
 }
 
 // Whether a record's bytes are well formed.

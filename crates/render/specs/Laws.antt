@@ -1,0 +1,166 @@
+-- Laws of the whole-tree calls: what each way through them comes to, that no two outcomes satisfy a contract, and that a place is small.
+use Prim.Native.Nat.{ℕ, _^_, _≤_, _<_}
+use native.Mathlib.Omega.{arith}
+use native.Mathlib.Nat.{zero-add}
+use mathlib.Core.Path.{_≡_, refl, _∙_, ap, sym}
+use mathlib.Core.List.{List}
+use mathlib.Core.Bool.{Bool, true, false, not, cond}
+use lib.Dec.{eqb, ltb}
+use lib.ListN.{length, getD}
+use lib.Seq.{sets-eq}
+use borrow.Author.Tests.{eqb-true, eq-eqb, ne-eqb, lt-ltb, le-ltb, ltb-false}
+use Rattle.spelling.specs.Table.{bytes}
+use Rattle.stream.specs.Sink.{State, most}
+use Rattle.stream.specs.Laws.{count-fits}
+use Rattle.tree.specs.Check as tree
+use Rattle.tree.specs.Check.{Checks}
+use Rattle.tree.specs.Whole as whole
+use Rattle.tree.specs.Bounds.{place-small, admitted-short, number-small as tree-number-small}
+use Rattle.tree.specs.declared.Answer.{Answer}
+use Rattle.tokens.specs.Tokens.{tokensOf}
+use Rattle.tokens.specs.Bound.{text-fits}
+use Rattle.pen.specs.Pen.{source, emit}
+use Rattle.pen.specs.Emit.{fresh, text-counted, text-stored}
+use Rattle.render.specs.declared.Outcome.{Outcome}
+use Rattle.render.specs.declared.Outcome.the-variants.{Done, Refused, NoRoom}
+use Rattle.render.specs.Render.{textFrom, refuses, measured, rendered, outputAfter, Measures, Renders, numberOf, placeOf}
+use Rattle.render.specs.Steps.{counted, Writes}
+
+-- ---- the tokens of a tree, written by a fresh sink, are its text
+pub writes : (t x w out : List ℕ) (st : State) → w ≡ bytes → length out ≤ most → st ≡ emit w (fresh, out) (tokensOf (source t x)) → Writes t x out (st .0 .at) (st .1)
+unfolding counted
+writes t x w out st table room e =
+    record {
+      counts = ap (λ (s : State). s .0 .at) e ∙ text-counted w out (source t x) table room;
+      stores = ap (λ (s : State). s .1) e ∙ text-stored w out (source t x) table room;
+    }
+
+-- ---- the ways through measure, by the number of the check's answer
+module _ {t x : List ℕ} {a : Answer} (c : Checks t x a) (m : ℕ) (is : m ≡ tree.numberOf a) where
+  pub refused : (m ≡ 0 → ⊥) → Measures t x (Refused a)
+  unfolding measured refuses
+  refused h = record { answer = a; checks = c; answers = rw (← is, ne-eqb m 0 h) }
+
+  -- a text that is admitted is short
+  text-short : m ≡ 0 → ((k : ℕ) → getD t k 0 < 256) → length (textFrom t x) < 2 ^ 32
+  text-short z inBytes =
+      let s = admitted-short c (sym is ∙ z) in
+      text-fits (source t x) (record { tree = s .0; bytes = inBytes; text = s .1 })
+
+  -- so the count is its length
+  pub measured-all : m ≡ 0 → ((k : ℕ) → getD t k 0 < 256) → (n : ℕ) → n ≡ counted t x → Measures t x (Done n)
+  unfolding measured refuses counted
+  measured-all z inBytes n e =
+      let l = length (textFrom t x) in
+      let s = text-short z inBytes in
+      let q : n ≡ l = e ∙ count-fits 0 l (omega arith) ∙ zero-add l in
+      record { answer = a; checks = c; answers = rw (← is, eq-eqb m 0 z, q) }
+
+-- ---- the ways through render, by what measure comes to
+module _ {t x : List ℕ} (out : List ℕ) where
+  -- a refusal stays one
+  pub kept : {o : Outcome} → ((n : ℕ) → o ≡ Done n → ⊥) → Measures t x o → Renders t x out o out
+  unfolding measured rendered outputAfter
+  kept {o} other m = by (refuses (m .answer)) refl (m .answers)
+    where
+      by : (b : Bool) → refuses (m .answer) ≡ b → o ≡ cond b (Refused (m .answer)) (Done (length (textFrom t x))) → Renders t x out o out
+      by true q e = record { answer = m .answer; checks = m .checks; answers = rw (q, e); writes = rw e }
+      by false q e = absurd (other (length (textFrom t x)) e)
+
+  module _ {n : ℕ} (m : Measures t x (Done n)) where
+    -- the check passed, and the number is the length
+    admitted : (refuses (m .answer) ≡ false) × (n ≡ length (textFrom t x))
+    unfolding measured
+    admitted = by (refuses (m .answer)) (m .answers)
+      where
+        by : (b : Bool) → Done n ≡ cond b (Refused (m .answer)) (Done (length (textFrom t x))) → (b ≡ false) × (n ≡ length (textFrom t x))
+        by true e = let z : _≡_ {A = ℕ} 0 1 = cc in absurd (omega arith)
+        by false e = (refl, cc)
+
+    pub no-room : length out < n → Renders t x out (NoRoom n) out
+    unfolding rendered outputAfter
+    no-room h =
+        let p = admitted in
+        record { answer = m .answer; checks = m .checks; answers = rw (p .0, ← p .1, lt-ltb (length out) n h); writes = refl }
+
+    pub written : {k : ℕ} {out′ : List ℕ} → n ≤ length out → Writes t x out k out′ → Renders t x out (Done n) out′
+    unfolding rendered outputAfter
+    written h w =
+        let p = admitted in
+        let fits : length (textFrom t x) ≤ length out = omega (arith, p .1) in
+        record {
+          answer = m .answer;
+          checks = m .checks;
+          answers = rw (p .0, ← p .1, le-ltb (length out) n h);
+          writes = rw (p .1, w .stores, sets-eq (textFrom t x) out 0 (omega arith), zero-add);
+        }
+
+-- ---- no two outcomes satisfy the contract
+pub measures-unique : (t x : List ℕ) (o p : Outcome) → Measures t x o → Measures t x p → o ≡ p
+measures-unique t x o p f g =
+    let q = whole.unique t x (f .answer) (g .answer) (f .checks) (g .checks) in
+    f .answers ∙ ap (λ (a : Answer). measured a (textFrom t x)) q ∙ sym (g .answers)
+
+pub renders-unique : (t x out : List ℕ) (o p : Outcome) (l m : List ℕ) → Renders t x out o l → Renders t x out p m → (o ≡ p) × (l ≡ m)
+renders-unique t x out o p l m f g =
+    let text = textFrom t x in
+    let q = whole.unique t x (f .answer) (g .answer) (f .checks) (g .checks) in
+    let s : o ≡ p = f .answers ∙ ap (λ (a : Answer). rendered a (length out) text) q ∙ sym (g .answers) in
+    (s, f .writes ∙ ap (λ (u : Outcome). outputAfter u text out) s ∙ sym (g .writes))
+
+-- the counting pass and the writing pass agree: where there is room for what measure answers, render answers the same
+pub agree : (t x out out′ : List ℕ) (o p : Outcome) → ((n : ℕ) → o ≡ Done n → n ≤ length out) → Measures t x o → Renders t x out p out′ → p ≡ o
+agree t x out out′ (Done n) p room m r =
+    renders-unique t x out p (Done n) out′ _ r (written out m (room n refl) (record { counts = refl; stores = refl })) .0
+agree t x out out′ (Refused a) p room m r =
+    renders-unique t x out p (Refused a) out′ out r (kept out (λ n e. let z : _≡_ {A = ℕ} 0 1 = cc in omega arith) m) .0
+agree t x out out′ (NoRoom k) p room m r =
+    renders-unique t x out p (NoRoom k) out′ out r (kept out (λ n e. let z : _≡_ {A = ℕ} 0 1 = cc in omega arith) m) .0
+
+-- ---- a number is one of 01's, and a place is far below 2^32, so that the two can be told apart in one number
+pub number-small : (o : Outcome) → numberOf o < 16
+number-small (Done n) = omega arith
+number-small (Refused a) = tree-number-small a
+number-small (NoRoom n) = omega arith
+
+abbrev Small : Outcome → Type 0
+Small o = placeOf o < 2 ^ 32
+
+module _ {t x : List ℕ} {a : Answer} (c : Checks t x a) (inBytes : (k : ℕ) → getD t k 0 < 256) where
+  -- the check's refusal, or what an admitted text comes to
+  refused-or : (o : Outcome) → (length (textFrom t x) < 2 ^ 32 → Small o) → Small (cond (refuses a) (Refused a) o)
+  unfolding refuses
+  refused-or o h = by (eqb (tree.numberOf a) 0) refl
+    where
+      by : (b : Bool) → eqb (tree.numberOf a) 0 ≡ b → Small (cond (not b) (Refused a) o)
+      by true e = h (text-short c (tree.numberOf a) refl (eqb-true (tree.numberOf a) 0 e) inBytes)
+      by false e = omega (arith, place-small c)
+
+  measured-small : Small (measured a (textFrom t x))
+  unfolding measured
+  measured-small = refused-or (Done (length (textFrom t x))) (λ h. h)
+
+  rendered-small : (size : ℕ) → Small (rendered a size (textFrom t x))
+  unfolding rendered
+  rendered-small size = refused-or _ (λ h. by h (ltb size (length (textFrom t x))))
+    where
+      by : length (textFrom t x) < 2 ^ 32 → (b : Bool) → Small (cond b (NoRoom (length (textFrom t x))) (Done (length (textFrom t x))))
+      by h true = h
+      by h false = h
+
+pub measures-small : {t x : List ℕ} {o : Outcome} → ((k : ℕ) → getD t k 0 < 256) → Measures t x o → placeOf o < 2 ^ 32
+measures-small b m = rw (m .answers) (measured-small (m .checks) b)
+
+pub renders-small : {t x out out′ : List ℕ} {o : Outcome} → ((k : ℕ) → getD t k 0 < 256) → Renders t x out o out′ → placeOf o < 2 ^ 32
+renders-small {t} {x} {out} b m = rw (m .answers) (rendered-small (m .checks) b (length out))
+
+-- ---- what was written fits the output
+pub done-fits : {t x out out′ : List ℕ} {n : ℕ} → Renders t x out (Done n) out′ → n ≤ length out
+unfolding rendered
+done-fits {t} {x} {out} {out′} {n} r = by (refuses (r .answer)) (ltb (length out) (length (textFrom t x))) refl (r .answers)
+  where
+    by : (a b : Bool) → ltb (length out) (length (textFrom t x)) ≡ b
+        → Done n ≡ cond a (Refused (r .answer)) (cond b (NoRoom (length (textFrom t x))) (Done (length (textFrom t x)))) → n ≤ length out
+    by true b q e = let z : _≡_ {A = ℕ} 0 1 = cc in absurd (omega arith)
+    by false true q e = let z : _≡_ {A = ℕ} 0 1 = cc in absurd (omega arith)
+    by false false q e = let z : n ≡ length (textFrom t x) = cc in omega (arith, ltb-false (length out) (length (textFrom t x)) q)

@@ -1,0 +1,3 @@
+pub mod Render
+pub mod Steps
+pub mod Laws

@@ -1,0 +1,60 @@
+-- 01, section 3: "measure gives the length, render writes", what each answers and the bytes that render leaves.
+use Prim.Native.Nat.{ℕ}
+use mathlib.Core.Path.{_≡_}
+use mathlib.Core.List.{List, [], _∷_, _++_}
+use mathlib.Core.Bool.{Bool, not}
+use lib.Dec.{eqb, ltb}
+use lib.ListN.{length, drop}
+use Rattle.laws.specs.First.{first}
+use Rattle.tree.specs.Check as tree
+use Rattle.tree.specs.Check.{Checks}
+use Rattle.tree.specs.declared.Answer.{Answer}
+use Rattle.tokens.specs.Tokens.{textOf}
+use Rattle.pen.specs.Pen.{source}
+use Rattle.render.specs.declared.Outcome.{Outcome}
+use Rattle.render.specs.declared.Outcome.the-variants.{Done, Refused, NoRoom}
+
+-- the text of a tree t, whose parts are of a text x
+abbrev pub textFrom : List ℕ → List ℕ → List ℕ
+textFrom t x = textOf (source t x)
+
+-- the check refuses
+unfoldable pub refuses : Answer → Bool
+refuses a = not (eqb (tree.numberOf a) 0)
+
+-- "Order: 1, 2, then the records by index ..; then 7; then 8". Where the check answers a: for a text, and for an output of so many bytes
+unfoldable pub measured : Answer → List ℕ → Outcome
+measured a text = first ((refuses a, Refused a) ∷ []) (Done (length text))
+
+unfoldable pub rendered : Answer → ℕ → List ℕ → Outcome
+rendered a size text = first ((refuses a, Refused a) ∷ (ltb size (length text), NoRoom (length text)) ∷ []) (Done (length text))
+
+-- "A refusal writes nothing; success writes exactly the bytes and nothing beyond them."
+unfoldable pub outputAfter : Outcome → List ℕ → List ℕ → List ℕ
+outputAfter (Done n) text out = text ++ drop n out
+outputAfter (Refused a) text out = out
+outputAfter (NoRoom n) text out = out
+
+-- what measure does with a tree t and a text x
+pub record Measures (t x : List ℕ) (outcome : Outcome) : Type 0 where
+  pub answer : Answer
+  pub checks : Checks t x answer
+  pub answers : outcome ≡ measured answer (textFrom t x)
+
+-- what render does with them and an output
+pub record Renders (t x out : List ℕ) (outcome : Outcome) (out′ : List ℕ) : Type 0 where
+  pub answer : Answer
+  pub checks : Checks t x answer
+  pub answers : outcome ≡ rendered answer (length out) (textFrom t x)
+  pub writes : out′ ≡ outputAfter outcome (textFrom t x) out
+
+-- the number and the place of each outcome
+abbrev pub numberOf : Outcome → ℕ
+numberOf (Done n) = 0
+numberOf (Refused a) = tree.numberOf a
+numberOf (NoRoom n) = 8
+
+abbrev pub placeOf : Outcome → ℕ
+placeOf (Done n) = n
+placeOf (Refused a) = tree.placeOf a
+placeOf (NoRoom n) = n

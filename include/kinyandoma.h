@@ -1,0 +1,61 @@
+/* Kinyandoma: schema text, to the byte. The calls of libkinyandoma.a (rt staticlib kinyandoma), for x86-64 Linux.
+ *
+ * Lending. Bytes are lent as a pointer and a length, in the order of the arguments. A call reads and writes only what
+ * is lent to it, keeps nothing afterwards, and allocates nothing. Each pointer is valid for its length and not null,
+ * also where the length is 0; no length is over 2^63 - 1; and what a call may write (`out`, `rec`) overlaps nothing else
+ * that is lent to the same call. Nothing else is asked of a caller: any bytes, and any length, are answered.
+ *
+ * Answers. A call answers number * 2^32 + place: answer >> 32 is the number, answer & 0xffffffff the place.
+ *
+ *   number  when                                                                        place
+ *   0       done                                                                        length of the text;
+ *                                                                                       append: bytes added
+ *   1       the tree is empty, over 65536 bytes, or not a multiple of 16;               0
+ *           append: the record is malformed, or its count past the end of out
+ *   2       the text or value is over 65536 bytes (place 65536; tested first),          first byte that begins no
+ *           or not UTF-8                                                                valid character
+ *   3       wrong mark                                                                  record
+ *   4       kind not allowed here, wrong child count, undefined flag, unused field      record; append: 0
+ *           not zero, unknown token, number out of range
+ *   5       text part not inside the text, or an end inside a character                 record
+ *   6       record deeper than 64                                                       record
+ *   7       a needed record is past the end, or records remain after the root           first missing or
+ *                                                                                       left-over index
+ *   8       out is shorter than needed                                                  length needed;
+ *                                                                                       append: bytes this token adds
+ *
+ * The first that fits is answered. For a tree: 1, 2, then the records by index, and at each 3, 4, 5, 6; then 7; then 8.
+ * For append: 1, 4, 2, 8. A place never exceeds 32 bits.
+ */
+#ifndef KINYANDOMA_H
+#define KINYANDOMA_H
+
+#include <stddef.h>
+#include <stdint.h>
+
+#ifdef __cplusplus
+extern "C" {
+#endif
+
+/* How long the text of a tree is. `tree` is a row of 16-byte records, `text` the UTF-8 text that they name parts of.
+ * Writes nothing. */
+uint64_t kinyandoma_measure(const uint8_t *tree, size_t tree_len, const uint8_t *text, size_t text_len);
+
+/* The text of a tree, written to out from its first byte on. On 0 exactly as many bytes are written as the place says,
+ * and those behind them are as they were; room for exactly the length is enough. On a refusal out is as it was. */
+uint64_t kinyandoma_render(const uint8_t *tree, size_t tree_len, const uint8_t *text, size_t text_len, uint8_t *out,
+                           size_t out_len);
+
+/* One token, appended behind what a stream has written. `rec` is the stream record, 9 bytes: 0 or 1 (1 at the start),
+ * then the count of bytes written so far, 8 bytes, little-endian. `token` is the token's number (bits 0-14), with bit 15
+ * set where a value is present; `value` is that value, and its length is 0 where none is. On 0 the token's bytes are
+ * written to out from the count on, nothing beyond them is changed, and the record is that of the longer stream. On a
+ * refusal out and rec are as they were. */
+uint64_t kinyandoma_append(uint8_t *rec, size_t rec_len, uint8_t *out, size_t out_len, uint16_t token,
+                           const uint8_t *value, size_t value_len);
+
+#ifdef __cplusplus
+}
+#endif
+
+#endif
