@@ -10,6 +10,8 @@ CASES=crates/replay/stdin
 EXPECTED=crates/replay/stdout
 TREES=crates/replay_trees/stdin
 ANSWERS=crates/replay_trees/stdout
+TEXTS=crates/replay_text/stdin
+WRITTEN=crates/replay_text/stdout
 
 # Folders of the definitions that the entries are read from.
 GRAMMAR=crates/grammar/specs
@@ -20,6 +22,7 @@ TOKENS=${TOKENS:-2000000}
 REFUSED=${REFUSED:-2000000}
 SEED=${SEED:-1}
 TREE_CASES=${TREE_CASES:-1000000}
+TREES_RENDERED=${TREES_RENDERED:-1000000}
 ENTRIES=${ENTRIES:-1000000}
 ENTRY_FAULTS=20000
 LISTED=1000
@@ -49,6 +52,7 @@ make_files() {
     "$programs/tokens" spellings --bare > "$made/spellings"
     "$programs/tokens" cases "$made/cases" "$made/expected"
     "$programs/model" cases "$LISTED" "$LISTED_SEED" "$made/trees" "$made/answers"
+    "$programs/model" texts "$made/texts" "$made/written"
 }
 
 store() {
@@ -71,6 +75,8 @@ for_each_file() {
     "$1" expected "$EXPECTED"
     "$1" trees "$TREES"
     "$1" answers "$ANSWERS"
+    "$1" texts "$TEXTS"
+    "$1" written "$WRITTEN"
 }
 
 check_sources
@@ -90,6 +96,7 @@ echo "the library against the crate:"
 rt staticlib kinyandoma
 KINYANDOMA_LIB=target/staticlib build --package compare
 "$programs/compare" "$TOKENS" "$REFUSED" "$SEED"
+"$programs/compare" trees "$TREES_RENDERED" "$SEED"
 
 echo "the check of trees against the model:"
 rt check replay_trees

@@ -109,7 +109,8 @@ impl Call {
 }
 
 impl Answer {
-    fn unpacked(packed: u64) -> Answer {
+    /// From number * 2^32 + place.
+    pub fn unpacked(packed: u64) -> Answer {
         Answer {
             number: (packed >> 32) as u32,
             place: packed as u32,

@@ -1,55 +1,104 @@
-//! Plants each fault in the stand-in and sees that the comparison finds it.
+//! Plants each fault in the stand-ins and sees that the comparison finds it.
 
-use crate::{compare_all, Extent};
+use crate::trees::stand_in::{exchange, faulty_entries};
+use crate::{compare_all, trees, Extent};
+use model::record::Record;
+use model::samples::Judged;
+use model::texts;
 use std::sync::atomic::{AtomicUsize, Ordering};
 
 macro_rules! faults {
-    ($($name:ident)*) => {
+    ($($list:ident: $($name:ident)*;)*) => {
+        /// What can be planted.
         #[derive(Clone, Copy, Debug)]
-        pub enum Fault { $($name,)* }
+        pub enum Fault { $($($name,)*)* }
 
-        const ALL: &[Fault] = &[$(Fault::$name,)*];
+        $(const $list: &[Fault] = &[$(Fault::$name,)*];)*
     };
 }
 
 faults! {
-    SpaceBeforeBracket
-    SpaceLeavesBit
-    BlobClearsBit
-    EmptyIsNotBlank
-    VerticalTabIsBlank
-    OneByteMore
-    ExactRoomRefused
-    RefusalMarksRecord
-    RefusalWrites
-    LongerRecord
-    AnyFirstByte
-    ShortCount
-    OneMoreToken
-    ValueWithoutBit
-    ValueBeforeToken
-    LongerValue
-    SurrogateTaken
-    PlaceOneLater
+    STREAM:
+        SpaceBeforeBracket
+        SpaceLeavesBit
+        BlobClearsBit
+        EmptyIsNotBlank
+        VerticalTabIsBlank;
+    APPEND:
+        OneByteMore
+        ExactRoomRefused
+        RefusalMarksRecord
+        RefusalWrites
+        LongerRecord
+        AnyFirstByte
+        ShortCount
+        OneMoreToken
+        ValueWithoutBit
+        ValueBeforeToken
+        LongerValue
+        SurrogateTaken
+        PlaceOneLater;
+    TREES:
+        LengthOneMore
+        LastByteMissing
+        OneByteBeyond
+        OneBytePastRoom
+        RoomTestStrict
+        RoomAsPlace
+        NoRoomWrites
+        RefusedTreeWrites
+        TreeTouched
+        RootListWithoutCommas
+        DepthOneLess
+        LongestTextRefused
+        LongestTreeRefused
+        WrongMarkTaken
+        PlaceInBytes
+        WhiteIsBlank
+        NoBreakSpaceIsNotWhite
+        ZeroWidthSpaceIsWhite
+        CommentOutsideLiteralsOnly
+        OperatorQuotesDoubled;
 }
 
 const NONE: usize = usize::MAX;
 static PLANTED: AtomicUsize = AtomicUsize::new(NONE);
 
+/// Random values besides the list, for the faults of the whole-tree calls.
+const VALUES: u64 = 2_000;
+const SEED: u64 = 1;
+
+/// Whether the fault is to be made now.
 pub fn planted(fault: Fault) -> bool {
     PLANTED.load(Ordering::Relaxed) == fault as usize
 }
 
-/// Whether every fault is found and the stand-in without a fault passes.
+/// Whether every fault is found and the stand-ins without a fault pass.
 pub fn try_all(whole: bool) -> bool {
-    let missed = ALL.iter().filter(|&&fault| !found(fault, whole)).count();
-    let none = difference_with(NONE);
+    let mut listed = texts::all();
+    let entries = entries_found(&listed);
+    listed.extend(texts::limits());
+    let append = all_found(&[STREAM, APPEND].concat(), whole, &difference_in_append);
+    let in_trees = |fault| difference_in_trees(fault, &listed);
+    let trees = all_found(&[STREAM, TREES].concat(), whole, &in_trees);
+    append && trees && entries
+}
+
+/// The difference that is found with a fault, if any is.
+type Compared<'a> = &'a dyn Fn(usize) -> Option<String>;
+
+fn all_found(faults: &[Fault], whole: bool, compared: Compared) -> bool {
+    let missed = faults
+        .iter()
+        .filter(|&&fault| !found(fault, whole, compared));
+    let missed = missed.count();
+    let none = compared(NONE);
     println!("no fault: {}", none.as_deref().unwrap_or("0 differences"));
     missed == 0 && none.is_none()
 }
 
-fn found(fault: Fault, whole: bool) -> bool {
-    let difference = difference_with(fault as usize);
+fn found(fault: Fault, whole: bool, compared: Compared) -> bool {
+    let difference = compared(fault as usize);
     let told = match &difference {
         None => "NOT FOUND",
         Some(text) if whole => text,
@@ -59,14 +108,46 @@ fn found(fault: Fault, whole: bool) -> bool {
     difference.is_some()
 }
 
-fn difference_with(fault: usize) -> Option<String> {
+fn difference_in_append(fault: usize) -> Option<String> {
     PLANTED.store(fault, Ordering::Relaxed);
     let extent = Extent {
         tokens: 100_000,
         refused: 100_000,
-        seed: 1,
+        seed: SEED,
     };
-    compare_all(&extent, false)
-        .err()
-        .map(|difference| difference.to_string())
+    let compared = compare_all(&extent, false);
+    compared.err().map(|difference| difference.to_string())
+}
+
+fn difference_in_trees(fault: usize, listed: &[Judged]) -> Option<String> {
+    PLANTED.store(fault, Ordering::Relaxed);
+    let compared = trees::compare_with(listed, VALUES, SEED);
+    compared.err().map(|difference| difference.to_string())
+}
+
+/// Whether the stored list alone finds each fault of each entry.
+fn entries_found(listed: &[Judged]) -> bool {
+    let faulty = faulty_entries();
+    let planted = faulty.len();
+    let mut missed = 0;
+    for (kind, shape) in faulty {
+        let told = format!("{shape:?}");
+        let before = exchange(kind, shape);
+        let with_kind = listed.iter().filter(|judged| has_kind(judged, kind));
+        if trees::compare_with(with_kind, 0, SEED).is_ok() {
+            missed += 1;
+            println!("NOT FOUND in kind {kind}: {told}");
+        }
+        exchange(kind, before);
+    }
+    println!(
+        "faults of entries: {planted}, found by the list: {}",
+        planted - missed
+    );
+    missed == 0
+}
+
+fn has_kind(judged: &Judged, kind: u16) -> bool {
+    let record = |index| Record::read(&judged.case.tree, index);
+    (0..).map_while(record).any(|record| record.kind == kind)
 }

@@ -1,4 +1,4 @@
-//! Compares kinyandoma_append with the crate and with the rules of its refusals.
+//! Compares the library's calls with the crate and with the rules of their refusals.
 
 mod call;
 #[cfg(feature = "selftest")]
@@ -11,12 +11,14 @@ mod rules;
 #[cfg(feature = "selftest")]
 mod stand_in;
 mod streams;
+mod trees;
 
 use report::{Counts, Difference};
 use std::{env, process};
 use tokens::random::Random;
 
-const USAGE: &str = "usage: compare [TOKENS [REFUSED-CALLS [SEED]]]";
+const USAGE: &str = "usage: compare [TOKENS [REFUSED-CALLS [SEED]]]
+       compare trees COUNT SEED";
 const DEFAULT_CALLS: u64 = 1_000_000;
 const DEFAULT_SEED: u64 = 1;
 
@@ -31,17 +33,35 @@ fn main() {
     let words: Vec<String> = env::args().skip(1).collect();
     #[cfg(feature = "selftest")]
     try_faults(&words);
-    let extent = extent(&words).unwrap_or_else(|| {
-        eprintln!("{USAGE}");
-        process::exit(2);
-    });
-    match compare_all(&extent, true) {
+    let told = match words.first().map(String::as_str) {
+        Some("trees") => compare_trees(&words[1..]),
+        _ => {
+            let extent = extent(&words).unwrap_or_else(|| fail());
+            compare_all(&extent, true).map_err(|difference| difference.to_string())
+        }
+    };
+    match told {
         Ok(()) => println!("0 differences"),
         Err(difference) => {
             println!("{difference}");
             process::exit(1);
         }
     }
+}
+
+fn fail() -> ! {
+    eprintln!("{USAGE}");
+    process::exit(2);
+}
+
+/// The whole-tree calls.
+fn compare_trees(words: &[String]) -> Result<(), String> {
+    let number = |word: &String| word.parse().unwrap_or_else(|_| fail());
+    let [count, seed] = words else { fail() };
+    let counts = trees::compare(number(count), number(seed));
+    let counts = counts.map_err(|difference| difference.to_string())?;
+    println!("{counts}");
+    Ok(())
 }
 
 /// `faults` tries every planted fault, `faults whole` tells each difference whole.
@@ -68,6 +88,7 @@ fn extent(words: &[String]) -> Option<Extent> {
     })
 }
 
+/// Append: streams, then refused calls.
 pub fn compare_all(extent: &Extent, print: bool) -> Result<(), Box<Difference>> {
     let mut random = Random::new(extent.seed);
     let mut appended = Counts::default();

@@ -126,7 +126,8 @@ fn bad_place(value: &[u8]) -> Option<usize> {
     })
 }
 
-fn written(spaced: bool, number: u16, value: Option<&[u8]>) -> (Vec<u8>, bool) {
+/// What one token adds, and the bit after it.
+pub fn written(spaced: bool, number: u16, value: Option<&[u8]>) -> (Vec<u8>, bool) {
     let mut bytes = Vec::new();
     let mut spaced = spaced;
     if !spaced && !tight(number) {

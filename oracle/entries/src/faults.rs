@@ -1,82 +1,45 @@
-//! Plants one fault after another in the entries: each is to be found.
+//! Entries with one fault each.
 
-use crate::interpret::{holds, node, Node};
-use crate::samples::{sample, Sample};
+use crate::interpret::holds;
 use crate::shape::{Class, Shape};
-use crate::{difference, tally, Grammar};
 use model::grammar::{NONE, NUMBER, RUN, TEXT};
-use std::collections::BTreeMap;
-use tokens::random::Random;
-
-/// A sample with its tree and the kinds in it.
-struct Held {
-    sample: Sample,
-    root: Node,
-    kinds: BTreeMap<u16, usize>,
-}
-
-pub fn plant(mut grammar: Grammar, count: usize, seed: u64) -> Result<(), String> {
-    let mut random = Random::new(seed);
-    let mut samples = vec![];
-    for _ in 0..count {
-        let sample = sample(&mut random);
-        let root = node(&sample.pair.0)?;
-        let mut kinds = BTreeMap::new();
-        tally(&root, &mut kinds);
-        samples.push(Held {
-            sample,
-            root,
-            kinds,
-        });
-    }
-    let (mut planted, mut missed) = (0, 0);
-    for (kind, shape) in grammar.table.clone() {
-        for faulty in faulty(&shape) {
-            planted += 1;
-            grammar.table.insert(kind, faulty.clone());
-            let mut with_kind = samples.iter().filter(|held| held.kinds.contains_key(&kind));
-            let found =
-                with_kind.any(|held| difference(&grammar, &held.sample, &held.root).is_some());
-            if !found {
-                missed += 1;
-                println!("not found in kind {kind}: {faulty:?}");
-            }
-        }
-        grammar.table.insert(kind, shape);
-    }
-    println!("{planted} faults planted, {} found", planted - missed);
-    match missed {
-        0 => Ok(()),
-        _ => Err(format!("{missed} faults not found")),
-    }
-}
 
 /// Copies of a shape with one fault each.
-fn faulty(shape: &Shape) -> Vec<Shape> {
+pub fn faulty(shape: &Shape) -> Vec<Shape> {
     let mut copies = here(shape);
-    let mut inside = |inner: &Shape, again: &dyn Fn(Box<Shape>) -> Shape| {
-        copies.extend(faulty(inner).into_iter().map(|copy| again(Box::new(copy))));
+    let mut inside = |inner: Vec<Shape>, again: &dyn Fn(Box<Shape>) -> Shape| {
+        copies.extend(inner.into_iter().map(|copy| again(Box::new(copy))));
     };
     match shape {
-        Shape::When(bit, inner) => inside(inner, &|copy| Shape::When(*bit, copy)),
-        Shape::Is(flags, inner) => inside(inner, &|copy| Shape::Is(*flags, copy)),
-        Shape::Given(inner) => inside(inner, &Shape::Given),
-        Shape::Filled(inner) => inside(inner, &Shape::Filled),
+        Shape::When(bit, inner) => inside(faulty(inner), &|copy| Shape::When(*bit, copy)),
+        Shape::Is(flags, inner) => inside(faulty(inner), &|copy| Shape::Is(*flags, copy)),
+        Shape::Given(inner) => inside(faulty(inner), &Shape::Given),
+        Shape::Filled(inner) => inside(faulty(inner), &Shape::Filled),
         Shape::Replacing(a, b) => {
-            inside(a, &|copy| Shape::Replacing(copy, b.clone()));
-            inside(b, &|copy| Shape::Replacing(a.clone(), copy));
+            inside(faulty_replace(a), &|copy| Shape::Replacing(copy, b.clone()));
+            inside(faulty(b), &|copy| Shape::Replacing(a.clone(), copy));
         }
         Shape::Later(a, b) => {
-            inside(a, &|copy| Shape::Later(copy, b.clone()));
-            inside(b, &|copy| Shape::Later(a.clone(), copy));
+            inside(faulty(a), &|copy| Shape::Later(copy, b.clone()));
+            inside(faulty(b), &|copy| Shape::Later(a.clone(), copy));
         }
         Shape::Then(a, b) => {
-            inside(a, &|copy| Shape::Then(copy, b.clone()));
-            inside(b, &|copy| Shape::Then(a.clone(), copy));
+            inside(faulty(a), &|copy| Shape::Then(copy, b.clone()));
+            inside(faulty(b), &|copy| Shape::Then(a.clone(), copy));
         }
         _ => {}
     }
     copies
+}
+
+/// Where the next child is REPLACE, which writes nothing: before or after a word is the same for it.
+fn faulty_replace(shape: &Shape) -> Vec<Shape> {
+    let same = match shape {
+        Shape::Then(a, b) => swapped(a, b),
+        _ => None,
+    };
+    let copies = faulty(shape).into_iter();
+    copies.filter(|copy| Some(copy) != same.as_ref()).collect()
 }
 
 /// The faults at the top of a shape.
@@ -119,8 +82,7 @@ fn swapped(a: &Shape, b: &Shape) -> Option<Shape> {
         _ => (b, None),
     };
     let exclusive = matches!((a, next), (Shape::Is(..), Shape::Is(..)));
-    let looks = |shape: &Shape| matches!(shape, Shape::Replacing(..));
-    if holds(a) && holds(next) || exclusive || looks(a) || looks(next) || a == next {
+    if holds(a) && holds(next) || exclusive || a == next {
         return None;
     }
     let (a, next) = (Box::new(a.clone()), Box::new(next.clone()));

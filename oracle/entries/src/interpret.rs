@@ -6,6 +6,7 @@ use model::record::{Record, VALUE_PRESENT};
 use tokens::token::Token;
 use turso_parser::token::TokenType::*;
 
+/// A record and all below it.
 pub struct Node {
     pub record: Record,
     pub children: Vec<Node>,
@@ -35,6 +36,8 @@ fn held(shape: &Shape) -> usize {
         Shape::When(_, inner) | Shape::Is(_, inner) => held(inner),
         Shape::Given(inner) | Shape::Filled(inner) => held(inner),
         Shape::Later(first, second) | Shape::Then(first, second) => held(first) + held(second),
+        // Both hold the same.
+        Shape::Replacing(_, no) => held(no),
         Shape::Slot(_) | Shape::Commas(_) | Shape::Row(_) => 1,
         Shape::Lines(..) | Shape::Tuples(_) => 1,
         Shape::Decimal | Shape::Brackets | Shape::Quoted | Shape::Rowid => 1,
@@ -43,6 +46,7 @@ fn held(shape: &Shape) -> usize {
     }
 }
 
+/// Whether a shape holds any child.
 pub fn holds(shape: &Shape) -> bool {
     held(shape) > 0
 }
@@ -63,8 +67,28 @@ fn is_white(c: char) -> bool {
         | 0x2028 | 0x2029 | 0x202F | 0x205F | 0x3000)
 }
 
+/// What section 4 says of single texts.
+#[derive(Clone, Copy)]
+pub struct Corners {
+    /// Where the without-rowid text is split.
+    pub white: fn(char) -> bool,
+    /// Whether a newline follows this CHECK source.
+    pub commented: fn(&str) -> bool,
+    /// An operator's text between its quotes.
+    pub quoted: fn(&str) -> String,
+}
+
+/// As the crate has them.
+pub const CORNERS: Corners = Corners {
+    white: is_white,
+    commented: |source| source.contains("--"),
+    quoted: |text| format!("'{text}'"),
+};
+
+/// Writes a tree's tokens by the entries.
 pub struct Interpreter<'a> {
     pub table: &'a Table,
+    pub corners: Corners,
     pub text: &'a str,
     pub out: Vec<Token>,
 }
@@ -72,6 +96,7 @@ pub struct Interpreter<'a> {
 type Done = Result<(), String>;
 
 impl Interpreter<'_> {
+    /// What a whole tree writes, a root LIST with commas.
     pub fn root(&mut self, root: &Class, node: &Node) -> Done {
         if !admitted(root, node) {
             return Err(format!("kind {} as root", node.record.kind));
@@ -82,6 +107,7 @@ impl Interpreter<'_> {
         }
     }
 
+    /// What a record writes by its entry, which is to take all its children.
     pub fn node(&mut self, node: &Node) -> Done {
         let kind = node.record.kind;
         let table = self.table;
@@ -139,25 +165,6 @@ impl Interpreter<'_> {
             Shape::Word(number) => self.word(*number),
             Shape::Said(text) => self.put(Token::id(text)),
             Shape::Line(number) => self.line(*number),
-            Shape::When(bit, inner) => {
-                self.if_so(of.record.flags >> bit & 1 == 1, inner, of, next)?
-            }
-            Shape::Is(flags, inner) => self.if_so(of.record.flags == *flags, inner, of, next)?,
-            Shape::Given(inner) => {
-                let none = look(of, *next)?.record.kind == NONE;
-                self.if_so(!none, inner, of, next)?;
-            }
-            Shape::Filled(inner) => {
-                let list = look(of, *next)?;
-                if list.record.kind != LIST {
-                    return Err("filled: not a LIST".to_string());
-                }
-                self.if_so(!list.children.is_empty(), inner, of, next)?;
-            }
-            Shape::Replacing(yes, no) => {
-                let replace = look(of, *next)?.record.kind == REPLACE;
-                self.write(if replace { yes } else { no }, of, next)?;
-            }
             Shape::Each(class) => {
                 while *next < of.children.len() {
                     let child = take(class, of, next)?;
@@ -174,42 +181,55 @@ impl Interpreter<'_> {
                 self.write(first, of, next)?;
                 self.write(second, of, next)?;
             }
-            _ => self.child(shape, of, next)?,
+            _ => self.chosen(shape, of, next)?,
         }
         Ok(())
     }
 
-    fn if_so(&mut self, so: bool, inner: &Shape, of: &Node, next: &mut usize) -> Done {
+    /// The shapes that flags or the next child decide about.
+    fn chosen(&mut self, shape: &Shape, of: &Node, next: &mut usize) -> Done {
+        let (so, inner, passed) = match shape {
+            Shape::When(bit, inner) => (of.record.flags >> bit & 1 == 1, inner, held(inner)),
+            Shape::Is(flags, inner) => (of.record.flags == *flags, inner, held(inner)),
+            // The one child that decides is passed over.
+            Shape::Given(inner) => (look(of, *next)?.record.kind != NONE, inner, 1),
+            Shape::Filled(inner) => {
+                let list = look(of, *next)?;
+                if list.record.kind != LIST {
+                    return Err("filled: not a LIST".to_string());
+                }
+                (!list.children.is_empty(), inner, 1)
+            }
+            Shape::Replacing(yes, no) => {
+                let replace = look(of, *next)?.record.kind == REPLACE;
+                return self.write(if replace { yes } else { no }, of, next);
+            }
+            _ => return self.listed(shape, of, next),
+        };
         match so {
             true => self.write(inner, of, next)?,
-            false => *next += held(inner),
+            false => *next += passed,
         }
         Ok(())
     }
 
-    /// The shapes that take the next child, or the next two.
-    fn child(&mut self, shape: &Shape, of: &Node, next: &mut usize) -> Done {
-        let text = Class::One(vec![TEXT]);
-        let text_or_none = Class::One(vec![NONE, TEXT]);
+    /// The shapes that take the next child, a LIST.
+    fn listed(&mut self, shape: &Shape, of: &Node, next: &mut usize) -> Done {
         match shape {
-            Shape::Slot(class) => {
-                let child = take(class, of, next)?;
-                self.node(child)?;
-            }
             Shape::Commas(class) => {
                 let list = take(&list_of(class), of, next)?;
-                self.commas(&list.children)?;
+                self.commas(&list.children)
             }
             Shape::Row(class) => {
-                for child in &take(&list_of(class), of, next)?.children {
-                    self.node(child)?;
-                }
+                let list = take(&list_of(class), of, next)?;
+                list.children.iter().try_for_each(|child| self.node(child))
             }
             Shape::Lines(class, number) => {
                 for child in &take(&list_of(class), of, next)?.children {
                     self.node(child)?;
                     self.line(*number);
                 }
+                Ok(())
             }
             Shape::Tuples(class) => {
                 let lists = take(&list_of(&list_of(class)), of, next)?;
@@ -221,6 +241,20 @@ impl Interpreter<'_> {
                     self.commas(&list.children)?;
                     self.put(Token::bare(TK_RP));
                 }
+                Ok(())
+            }
+            _ => self.child(shape, of, next),
+        }
+    }
+
+    /// The shapes that take the next child, or the next two.
+    fn child(&mut self, shape: &Shape, of: &Node, next: &mut usize) -> Done {
+        let text = Class::One(vec![TEXT]);
+        let text_or_none = Class::One(vec![NONE, TEXT]);
+        match shape {
+            Shape::Slot(class) => {
+                let child = take(class, of, next)?;
+                self.node(child)?;
             }
             Shape::Decimal => {
                 let child = take(&Class::One(vec![NONE, NUMBER]), of, next)?;
@@ -236,7 +270,7 @@ impl Interpreter<'_> {
             }
             Shape::Quoted => {
                 let part = self.part(take(&text, of, next)?)?;
-                self.put(Token::with(TK_STRING, &format!("'{part}'")));
+                self.put(Token::with(TK_STRING, &(self.corners.quoted)(&part)));
             }
             Shape::Rowid => {
                 let child = take(&text_or_none, of, next)?;
@@ -247,22 +281,29 @@ impl Interpreter<'_> {
             Shape::Source => {
                 let expression = take(&Class::One(vec![RUN]), of, next)?;
                 let source = take(&text_or_none, of, next)?;
-                if source.record.length == 0 {
-                    return self.node(expression);
-                }
-                let part = self.part(source)?;
-                self.put(Token::id(&part));
-                if part.contains("--") {
-                    self.put(Token::id("\n"));
-                }
+                self.source(expression, source)?;
             }
             _ => return Err(format!("no child in {shape:?}")),
         }
         Ok(())
     }
 
+    fn source(&mut self, expression: &Node, source: &Node) -> Done {
+        if source.record.length == 0 {
+            return self.node(expression);
+        }
+        let part = self.part(source)?;
+        self.put(Token::id(&part));
+        if (self.corners.commented)(&part) {
+            self.put(Token::id("\n"));
+        }
+        Ok(())
+    }
+
     fn rowid(&mut self, part: &str) {
-        let words = part.split(is_white).filter(|word| !word.is_empty());
+        let words = part
+            .split(self.corners.white)
+            .filter(|word| !word.is_empty());
         if let [_, second] = words.collect::<Vec<_>>()[..] {
             self.put(Token::bare(TK_WITHOUT));
             self.put(Token::id(second));

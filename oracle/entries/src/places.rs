@@ -11,7 +11,7 @@ pub fn agree(table: &Table) -> Result<usize, String> {
             continue;
         };
         let mut held = vec![];
-        places(shape, &mut held);
+        places(shape, &mut held)?;
         let held: Vec<Class> = held.into_iter().map(sorted).collect();
         let slots: Vec<Class> = row.slots.iter().map(|slot| sorted(class(slot))).collect();
         if held != slots {
@@ -29,14 +29,15 @@ fn list(class: &Class) -> Class {
 }
 
 /// In the order in which they are held.
-fn places(shape: &Shape, held: &mut Vec<Class>) {
+fn places(shape: &Shape, held: &mut Vec<Class>) -> Result<(), String> {
     let one = |kinds: &[u16]| Class::One(kinds.to_vec());
     match shape {
-        Shape::When(_, inner) | Shape::Is(_, inner) => places(inner, held),
-        Shape::Given(inner) | Shape::Filled(inner) => places(inner, held),
+        Shape::When(_, inner) | Shape::Is(_, inner) => places(inner, held)?,
+        Shape::Given(inner) | Shape::Filled(inner) => places(inner, held)?,
+        Shape::Replacing(yes, no) => held.extend(the_same(yes, no)?),
         Shape::Later(first, second) | Shape::Then(first, second) => {
-            places(first, held);
-            places(second, held);
+            places(first, held)?;
+            places(second, held)?;
         }
         Shape::Slot(class) => held.push(class.clone()),
         Shape::Commas(class) | Shape::Row(class) | Shape::Lines(class, _) => held.push(list(class)),
@@ -47,6 +48,18 @@ fn places(shape: &Shape, held: &mut Vec<Class>) {
         Shape::Rowid => held.push(one(&[NONE, TEXT])),
         Shape::Source => held.extend([one(&[RUN]), one(&[NONE, TEXT])]),
         _ => {}
+    }
+    Ok(())
+}
+
+/// What two shapes hold, one of which is written.
+fn the_same(yes: &Shape, no: &Shape) -> Result<Vec<Class>, String> {
+    let (mut of_yes, mut of_no) = (vec![], vec![]);
+    places(yes, &mut of_yes)?;
+    places(no, &mut of_no)?;
+    match of_yes == of_no {
+        true => Ok(of_no),
+        false => Err(format!("{of_yes:?} with REPLACE, {of_no:?} without")),
     }
 }
 

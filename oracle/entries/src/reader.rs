@@ -2,6 +2,7 @@
 
 use std::collections::{HashMap, HashSet};
 
+/// What a definition comes to.
 #[derive(Clone, Debug, PartialEq)]
 pub enum Value {
     Number(u64),
@@ -24,6 +25,7 @@ struct Clause {
 
 type Names = HashMap<String, Value>;
 
+/// What the files define.
 #[derive(Default)]
 pub struct Definitions {
     /// Constructors and how many arguments they take.
@@ -80,6 +82,7 @@ impl Definitions {
         Ok(())
     }
 
+    /// What a name stands for.
     pub fn value(&self, name: &str) -> Result<Value, String> {
         self.apply(name, vec![])
     }
@@ -172,6 +175,7 @@ impl Definitions {
     }
 }
 
+/// The elements of a list.
 pub fn elements(list: &Value) -> Result<Vec<&Value>, String> {
     let mut found = vec![];
     let mut rest = list;

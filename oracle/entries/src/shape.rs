@@ -3,6 +3,7 @@
 use crate::reader::{elements, Definitions, Value};
 use std::collections::BTreeMap;
 
+/// What may stand in a place.
 #[derive(Clone, Debug, PartialEq)]
 pub enum Class {
     One(Vec<u16>),
@@ -11,6 +12,7 @@ pub enum Class {
     Small,
 }
 
+/// What an entry holds and writes.
 #[derive(Clone, Debug, PartialEq)]
 pub enum Shape {
     Nothing,
@@ -39,8 +41,10 @@ pub enum Shape {
     Then(Box<Shape>, Box<Shape>),
 }
 
+/// The entries by their kinds.
 pub type Table = BTreeMap<u16, Shape>;
 
+/// The entries of the definitions.
 pub fn table(definitions: &Definitions) -> Result<Table, String> {
     let mut table = Table::new();
     for entry in elements(&definitions.value("table")?)? {
@@ -58,6 +62,7 @@ pub fn table(definitions: &Definitions) -> Result<Table, String> {
     Ok(table)
 }
 
+/// What may be the root.
 pub fn root(definitions: &Definitions) -> Result<Class, String> {
     class_of(&definitions.value("root")?)
 }

@@ -48,6 +48,7 @@ pub const TEXT: u16 = 4;
 pub const NUMBER: u16 = 5;
 pub const CMD: u16 = 10;
 pub const FIRST_STMT: u16 = 32;
+pub const CHECK: u16 = 103;
 pub const REPLACE: u16 = 119;
 
 pub static ROOT: Slot = one(Class::Root);

@@ -12,4 +12,6 @@ pub mod outline;
 pub mod random;
 pub mod record;
 pub mod row;
+pub mod samples;
 pub mod tally;
+pub mod texts;

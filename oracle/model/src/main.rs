@@ -1,7 +1,8 @@
 //! Writes cases and the model's answers, judges answers, tells what the good trees hold.
 
+use model::damage::Case;
 use model::row::Row;
-use model::{files, fixed, judge, tally};
+use model::{files, fixed, judge, tally, texts};
 use std::io::{self, BufReader, BufWriter, Write};
 use std::{env, fs, process};
 
@@ -9,7 +10,8 @@ const USAGE: &str = "usage: model cases COUNT SEED INPUT-FILE EXPECTED-FILE
        model stream COUNT SEED
        model answer
        model judge COUNT SEED
-       model kinds COUNT SEED";
+       model kinds COUNT SEED
+       model texts INPUT-FILE EXPECTED-FILE";
 
 fn main() {
     let words: Vec<String> = env::args().skip(1).collect();
@@ -22,6 +24,7 @@ fn main() {
         ["answer"] => answer(),
         ["judge", count, seed] => judge_answers(number(count), number(seed)),
         ["kinds", count, seed] => kinds(number(count), number(seed)),
+        ["texts", input, expected] => write_texts(input, expected),
         _ => fail(USAGE),
     };
     done.unwrap_or_else(|error| fail(&error.to_string()));
@@ -33,12 +36,23 @@ fn number<T: std::str::FromStr>(word: &str) -> T {
 
 fn write_cases(count: usize, seed: u64, input: &str, expected: &str) -> io::Result<()> {
     let cases = fixed::all(count, seed);
+    let lines = cases.iter().map(|case| (case, files::answer(case)));
+    write_lines(lines.collect(), input, expected)
+}
+
+fn write_texts(input: &str, expected: &str) -> io::Result<()> {
+    let all = texts::all();
+    let lines = all.iter().map(|judged| (&judged.case, texts::line(judged)));
+    write_lines(lines.collect(), input, expected)
+}
+
+/// Cases, and a line for each.
+fn write_lines(cases: Vec<(&Case, String)>, input: &str, expected: &str) -> io::Result<()> {
     let mut bytes = Vec::new();
     let mut lines = String::new();
-    for case in &cases {
+    for (case, line) in &cases {
         files::write_case(&mut bytes, case)?;
-        lines += &files::answer(case);
-        lines += "\n";
+        lines += &format!("{line}\n");
     }
     fs::write(input, &bytes)?;
     fs::write(expected, lines)?;

@@ -2,7 +2,7 @@
 
 mod expr;
 mod names;
-mod select;
+pub mod select;
 mod statement;
 mod table;
 

@@ -34,6 +34,20 @@ impl Tally {
         *self.seen.entry((kind, what)).or_default() += 1;
     }
 
+    /// Whether the tree has a flag value or a state of a slot that was not seen so often yet; if so, it is counted.
+    pub fn gains(&mut self, tree: &[u8], times: u64) -> bool {
+        let mut of_tree = Tally::default();
+        of_tree.tree(tree);
+        of_tree.seen.retain(|(kind, _), _| *kind != TOKEN);
+        let often = |sight| self.seen.get(sight).is_some_and(|seen| *seen >= times);
+        let gains = !of_tree.seen.keys().all(often);
+        if gains {
+            let sights = of_tree.seen.into_keys();
+            sights.for_each(|sight| *self.seen.entry(sight).or_default() += 1);
+        }
+        gains
+    }
+
     fn tree(&mut self, tree: &[u8]) {
         let nodes = outline(tree);
         for node in &nodes {

@@ -1,14 +1,19 @@
 //! What the fixed list and the good trees hold.
 
 use model::check::check;
-use model::grammar::{row, KINDS};
+use model::grammar::{row, KINDS, TOKEN};
 use model::outline::outline;
 use model::record::Record;
-use model::{fixed, tally};
+use model::samples::Judged;
+use model::{fixed, tally, texts};
 use std::collections::BTreeSet;
+use std::sync::OnceLock;
 
 const MOST_BYTES: usize = 1_500_000;
 const LARGE: usize = 32_768;
+const FEWEST_TEXTS: usize = 500;
+const MOST_TEXTS: usize = 900;
+const MOST_BYTES_OF_TEXTS: usize = 400_000;
 
 #[test]
 fn the_fixed_list_has_every_number() {
@@ -62,4 +67,37 @@ fn the_table_has_each_kind_once() {
     let expected: Vec<u16> = [10].into_iter().chain(32..=64).chain(80..=120).collect();
     assert_eq!(numbers, expected);
     assert!(numbers.iter().all(|&number| row(number).is_some()));
+}
+
+fn listed_texts() -> &'static [Judged] {
+    static LISTED: OnceLock<Vec<Judged>> = OnceLock::new();
+    LISTED.get_or_init(texts::all)
+}
+
+#[test]
+fn the_list_of_texts_holds_everything() {
+    let mut tally = tally::Tally::default();
+    let admitted = listed_texts()
+        .iter()
+        .filter(|judged| judged.expected.is_ok());
+    // Each gains, as nothing is seen so often.
+    admitted.for_each(|judged| assert!(tally.gains(&judged.case.tree, u64::MAX)));
+    let missing = tally.missing().into_iter();
+    let missing: Vec<_> = missing.filter(|(kind, _)| *kind != TOKEN).collect();
+    assert_eq!(missing, []);
+}
+
+#[test]
+fn the_list_of_texts_has_every_refusal_and_is_small() {
+    let refused = listed_texts()
+        .iter()
+        .filter_map(|judged| judged.expected.as_ref().err());
+    let numbers: BTreeSet<u32> = refused.map(|(number, _)| *number).collect();
+    assert_eq!(numbers, (1..=7).collect());
+    let size = |judged: &Judged| {
+        let case = &judged.case;
+        8 + case.tree.len() + case.text.len() + texts::line(judged).len() + 1
+    };
+    assert!((FEWEST_TEXTS..=MOST_TEXTS).contains(&listed_texts().len()));
+    assert!(listed_texts().iter().map(size).sum::<usize>() < MOST_BYTES_OF_TEXTS);
 }

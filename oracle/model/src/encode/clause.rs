@@ -14,12 +14,12 @@ impl Encode for AlterTableBody {
             }
             AlterTableBody::AddColumn(column) => {
                 out.kind(94);
-                column.encode(out);
+                out.node(column);
             }
             AlterTableBody::AlterColumn { old, new } => {
                 out.kind(95);
                 out.run(old);
-                new.encode(out);
+                out.node(new);
             }
             AlterTableBody::RenameColumn { old, new } => {
                 out.kind(96);
@@ -50,7 +50,7 @@ impl Encode for CreateTableBody {
             }
             CreateTableBody::AsSelect(select) => {
                 out.kind(99);
-                select.encode(out);
+                out.node(select);
             }
         }
     }
@@ -75,7 +75,7 @@ impl Encode for NamedTableConstraint {
                 name.to_tokens(run, &BlankContext)
             }),
         }
-        self.constraint.encode(out);
+        out.node(&self.constraint);
     }
 }
 
@@ -111,7 +111,7 @@ impl Encode for TableConstraint {
             } => {
                 out.kind(104);
                 out.runs(columns);
-                clause.encode(out);
+                out.node(clause);
                 out.maybe_run(defer_clause);
             }
         }
@@ -171,7 +171,7 @@ impl Encode for TypeField {
     fn encode(&self, out: &mut Writer) {
         out.kind(114);
         out.run(&self.name);
-        self.field_type.encode(out);
+        out.node(&self.field_type);
     }
 }
 

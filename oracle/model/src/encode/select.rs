@@ -9,7 +9,7 @@ impl Encode for Select {
     fn encode(&self, out: &mut Writer) {
         out.kind(80);
         out.maybe(&self.with);
-        self.body.encode(out);
+        out.node(&self.body);
         order_by(&self.order_by, out);
         out.maybe_run(&self.limit);
     }
@@ -30,7 +30,7 @@ fn order_by(columns: &[SortedColumn], out: &mut Writer) {
 impl Encode for SelectBody {
     fn encode(&self, out: &mut Writer) {
         out.kind(81);
-        self.select.encode(out);
+        out.node(&self.select);
         out.list(&self.compounds);
     }
 }
@@ -39,7 +39,7 @@ impl Encode for CompoundSelect {
     fn encode(&self, out: &mut Writer) {
         out.kind(82);
         out.run(&self.operator);
-        self.select.encode(out);
+        out.node(&self.select);
     }
 }
 
@@ -73,7 +73,7 @@ impl Encode for OneSelect {
 impl Encode for FromClause {
     fn encode(&self, out: &mut Writer) {
         out.kind(85);
-        self.select.encode(out);
+        out.node(&*self.select);
         out.list(&self.joins);
     }
 }
@@ -82,7 +82,7 @@ impl Encode for JoinedSelectTable {
     fn encode(&self, out: &mut Writer) {
         out.kind(86);
         out.run(&self.operator);
-        self.table.encode(out);
+        out.node(&*self.table);
         out.maybe(&self.constraint);
     }
 }
@@ -104,12 +104,12 @@ impl Encode for SelectTable {
             }
             SelectTable::Select(select, alias) => {
                 out.kind(89);
-                select.encode(out);
+                out.node(select);
                 out.maybe_run(alias);
             }
             SelectTable::Sub(from, alias) => {
                 out.kind(90);
-                from.encode(out);
+                out.node(from);
                 out.maybe_run(alias);
             }
         }
@@ -155,7 +155,7 @@ impl Encode for CommonTableExpr {
         out.flagged(106, materialized);
         out.run(&self.tbl_name);
         out.runs(&self.columns);
-        self.select.encode(out);
+        out.node(&self.select);
     }
 }
 

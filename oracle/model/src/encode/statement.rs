@@ -10,7 +10,7 @@ impl Encode for Stmt {
             Stmt::AlterTable(AlterTable { name, body }) => {
                 out.kind(32);
                 out.run(name);
-                body.encode(out);
+                out.node(body);
             }
             Stmt::Analyze { name } => {
                 out.kind(33);
@@ -115,9 +115,9 @@ impl Encode for Stmt {
             }
             Stmt::Select(select) => {
                 out.kind(56);
-                select.encode(out);
+                out.node(select);
             }
-            Stmt::Update(update) => update.encode(out),
+            Stmt::Update(update) => update_of(update, out),
             Stmt::Vacuum { name, into } => {
                 out.kind(58);
                 out.maybe_run(name);
@@ -127,18 +127,16 @@ impl Encode for Stmt {
     }
 }
 
-impl Encode for Update {
-    fn encode(&self, out: &mut Writer) {
-        out.kind(57);
-        out.maybe(&self.with);
-        out.maybe_run(&self.or_conflict);
-        out.run(&self.tbl_name);
-        out.maybe_run(&self.indexed);
-        out.runs(&self.sets);
-        out.maybe(&self.from);
-        out.maybe_run(&self.where_clause);
-        out.runs(&self.returning);
-    }
+fn update_of(update: &Update, out: &mut Writer) {
+    out.kind(57);
+    out.maybe(&update.with);
+    out.maybe_run(&update.or_conflict);
+    out.run(&update.tbl_name);
+    out.maybe_run(&update.indexed);
+    out.runs(&update.sets);
+    out.maybe(&update.from);
+    out.maybe_run(&update.where_clause);
+    out.runs(&update.returning);
 }
 
 fn create(stmt: &Stmt, out: &mut Writer) {
@@ -169,7 +167,7 @@ fn create(stmt: &Stmt, out: &mut Writer) {
         } => {
             out.with_bits(38, &[*temporary, *if_not_exists]);
             out.run(tbl_name);
-            body.encode(out);
+            out.node(body);
         }
         Stmt::CreateTrigger {
             temporary,
@@ -200,7 +198,7 @@ fn create(stmt: &Stmt, out: &mut Writer) {
             out.with_bits(40, &[*temporary, *if_not_exists]);
             out.run(view_name);
             out.runs(columns);
-            select.encode(out);
+            out.node(select);
         }
         Stmt::CreateMaterializedView {
             if_not_exists,
@@ -211,7 +209,7 @@ fn create(stmt: &Stmt, out: &mut Writer) {
             out.with_bits(41, &[*if_not_exists]);
             out.run(view_name);
             out.runs(columns);
-            select.encode(out);
+            out.node(select);
         }
         Stmt::CreateVirtualTable(CreateVirtualTable {
             if_not_exists,
@@ -231,7 +229,7 @@ fn create(stmt: &Stmt, out: &mut Writer) {
         } => {
             out.with_bits(59, &[*if_not_exists]);
             out.text(type_name);
-            body.encode(out);
+            out.node(body);
         }
         Stmt::CreateDomain {
             if_not_exists,

@@ -4,16 +4,49 @@ use super::{Encode, Pair};
 use crate::grammar::{row, LIST, NONE, NUMBER, RUN, TEXT, TOKEN};
 use crate::record::{Record, SIZE, VALUE_PRESENT};
 use std::convert::Infallible;
+use tokens::random::Random;
+use tokens::token::Token;
 use turso_parser::ast::fmt::{BlankContext, ToTokens, TokenStream};
 use turso_parser::token::TokenType;
+
+/// Of the values in slots, one in so many is drawn to be a RUN.
+const DRAWN: usize = 3;
 
 #[derive(Default)]
 pub struct Writer {
     tree: Vec<u8>,
     text: Vec<u8>,
+    /// Draws the values that become RUNs; with none, none does.
+    draw: Option<Random>,
 }
 
 impl Writer {
+    /// Some values below the root become RUNs of the crate's tokens for them.
+    pub fn with_runs(seed: u64) -> Writer {
+        Writer {
+            draw: Some(Random::new(seed)),
+            ..Writer::default()
+        }
+    }
+
+    /// A value in a slot or a list.
+    pub fn node(&mut self, value: &dyn Encode) {
+        let drawn = self.draw.as_mut();
+        match drawn.is_some_and(|random| random.one_in(DRAWN)) {
+            true => self.tokens(&value.tokens()),
+            false => value.encode(self),
+        }
+    }
+
+    /// A RUN.
+    pub fn tokens(&mut self, tokens: &[Token]) {
+        let count = u16::try_from(tokens.len()).expect("a run whose count fits");
+        self.record(&Record::new(RUN, count));
+        for token in tokens {
+            self.token(token.number, token.value.as_deref());
+        }
+    }
+
     pub fn pair(self) -> Pair {
         (self.tree, self.text)
     }
@@ -84,7 +117,7 @@ impl Writer {
     }
 
     pub fn list(&mut self, values: &[impl Encode]) {
-        self.list_of(values, |out, value| value.encode(out));
+        self.list_of(values, |out, value| out.node(value));
     }
 
     pub fn runs(&mut self, values: &[impl ToTokens]) {
@@ -93,7 +126,7 @@ impl Writer {
 
     pub fn maybe(&mut self, value: &Option<impl Encode>) {
         match value {
-            Some(value) => value.encode(self),
+            Some(value) => self.node(value),
             None => self.none(),
         }
     }

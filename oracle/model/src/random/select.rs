@@ -187,10 +187,56 @@ impl Maker<'_> {
         }
     }
 
+    /// A table in brackets so many times, as a select or a from clause each time.
+    pub fn deep(&mut self, times: usize) -> FromClause {
+        let mut from = only(SelectTable::Table(self.qualified(), None, None));
+        for _ in 0..times {
+            from = only(match self.bit() {
+                true => SelectTable::Sub(from, None),
+                false => SelectTable::Select(all_from(from), None),
+            });
+        }
+        from
+    }
+
     fn nested<T>(&mut self, make: fn(&mut Self) -> T) -> T {
         self.nest -= 1;
         let value = make(self);
         self.nest += 1;
         value
+    }
+}
+
+/// A from clause of one table.
+pub fn only(table: SelectTable) -> FromClause {
+    FromClause {
+        select: Box::new(table),
+        joins: vec![],
+    }
+}
+
+/// SELECT * FROM this.
+pub fn all_from(from: FromClause) -> Select {
+    let select = OneSelect::Select {
+        distinctness: None,
+        columns: vec![ResultColumn::Star],
+        from: Some(from),
+        where_clause: None,
+        group_by: None,
+        window_clause: vec![],
+    };
+    plain(select)
+}
+
+/// A select with nothing but its body.
+pub fn plain(select: OneSelect) -> Select {
+    Select {
+        with: None,
+        body: SelectBody {
+            select,
+            compounds: vec![],
+        },
+        order_by: vec![],
+        limit: None,
     }
 }

@@ -1,0 +1,101 @@
+//! Compares kinyandoma_measure and kinyandoma_render with the crate's texts and the model's refusals.
+
+mod call;
+mod report;
+#[cfg(feature = "selftest")]
+pub mod stand_in;
+
+use call::{Call, Lent};
+use model::check::check;
+use model::damage::{damage, Case};
+use model::samples::{sample, Judged};
+use model::texts;
+pub use report::{Counts, Difference};
+use tokens::random::Random;
+
+type Checked = Result<(), Box<Difference>>;
+
+/// One value in so many is followed by damaged copies of its tree, so many each.
+const DAMAGED: usize = 4;
+const COPIES: usize = 2;
+/// Most bytes of room beyond a text, and of the room of a refused call.
+const MORE: usize = 40;
+
+/// The listed trees, then those of so many random values.
+pub fn compare(count: u64, seed: u64) -> Result<Counts, Box<Difference>> {
+    let listed = texts::all().into_iter().chain(texts::limits());
+    compare_with(&listed.collect::<Vec<_>>(), count, seed)
+}
+
+/// The list is made by the caller, who may use it again.
+pub fn compare_with<'a>(
+    listed: impl IntoIterator<Item = &'a Judged>,
+    count: u64,
+    seed: u64,
+) -> Result<Counts, Box<Difference>> {
+    let mut random = Random::new(seed);
+    let mut counts = Counts::default();
+    for judged in listed {
+        hold("a listed tree", judged, &mut random, &mut counts)?;
+    }
+    for _ in 0..count {
+        let judged = sample(&mut random).judged();
+        hold("a random value", &judged, &mut random, &mut counts)?;
+        if random.one_in(DAMAGED) {
+            hold_damaged(&judged.case, &mut random, &mut counts)?;
+        }
+    }
+    Ok(counts)
+}
+
+/// Damaged copies, but for those that are good trees still: the crate has no text for them.
+fn hold_damaged(case: &Case, random: &mut Random, counts: &mut Counts) -> Checked {
+    for _ in 0..COPIES {
+        let mut case = case.clone();
+        damage(random, &mut case);
+        let refusal = check(&case.tree, &case.text);
+        if refusal.0 > 0 {
+            let expected = Err(refusal);
+            let judged = Judged { case, expected };
+            hold("a damaged tree", &judged, random, counts)?;
+        }
+    }
+    Ok(())
+}
+
+fn hold(part: &'static str, judged: &Judged, random: &mut Random, counts: &mut Counts) -> Checked {
+    counts.tree(part, judged);
+    let mut lent = Lent::new(&judged.case, random.word() as usize);
+    for call in calls(judged, random) {
+        let observed = lent.observed(&call);
+        let expected = call.expected(judged);
+        if observed != expected {
+            let case = judged.case.clone();
+            return Err(Box::new(Difference {
+                part,
+                case,
+                call,
+                expected,
+                observed,
+            }));
+        }
+        counts.call(&call, &observed);
+    }
+    Ok(())
+}
+
+/// Measure; render with just the room, with more, with one byte less, and with any less.
+fn calls(judged: &Judged, random: &mut Random) -> Vec<Call> {
+    let rooms = match &judged.expected {
+        Err(_) => vec![random.below(MORE)],
+        Ok(text) if text.is_empty() => vec![0, random.between(1, MORE)],
+        Ok(text) => {
+            let length = text.len();
+            let more = length + random.between(1, MORE);
+            vec![length, more, length - 1, random.below(length)]
+        }
+    };
+    let render = |room| Call::Render(random.bytes(room));
+    let renders = rooms.into_iter().map(render);
+    [Call::Measure].into_iter().chain(renders).collect()
+}

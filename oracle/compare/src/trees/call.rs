@@ -1,0 +1,129 @@
+//! One call: what is lent, and what comes of it.
+
+use crate::call::Answer;
+use crate::guarded::Guarded;
+#[cfg(feature = "selftest")]
+use crate::trees::stand_in::{kinyandoma_measure, kinyandoma_render};
+use model::damage::Case;
+use model::samples::Judged;
+
+#[cfg(not(feature = "selftest"))]
+extern "C" {
+    fn kinyandoma_measure(
+        tree: *const u8,
+        tree_len: usize,
+        text: *const u8,
+        text_len: usize,
+    ) -> u64;
+    fn kinyandoma_render(
+        tree: *const u8,
+        tree_len: usize,
+        text: *const u8,
+        text_len: usize,
+        out: *mut u8,
+        out_len: usize,
+    ) -> u64;
+}
+
+/// The number of an output that is too short.
+const NO_ROOM: u32 = 8;
+/// Addresses are tried modulo this.
+const ALIGNMENT: usize = 16;
+
+/// A call of the one or the other.
+#[derive(Clone)]
+pub enum Call {
+    Measure,
+    /// With what stands in the output before.
+    Render(Vec<u8>),
+}
+
+/// The answer, and what stands in the lent parts afterwards.
+#[derive(PartialEq)]
+pub struct Outcome {
+    pub answer: Answer,
+    pub output: Vec<u8>,
+    /// Whether tree, text and all bytes around the lent parts are as before.
+    pub rest_untouched: bool,
+}
+
+/// A tree and its text, with known bytes around them.
+pub struct Lent<'a> {
+    case: &'a Case,
+    tree: Guarded,
+    text: Guarded,
+    shift: usize,
+}
+
+impl Lent<'_> {
+    /// `shift` moves all lent parts, so that they stand at addresses of every kind.
+    pub fn new(case: &Case, shift: usize) -> Lent<'_> {
+        Lent {
+            case,
+            tree: Guarded::new(&case.tree, shift % ALIGNMENT),
+            text: Guarded::new(&case.text, shift / ALIGNMENT % ALIGNMENT),
+            shift,
+        }
+    }
+
+    /// What the library makes of it.
+    pub fn observed(&mut self, call: &Call) -> Outcome {
+        let shift = self.shift / ALIGNMENT / ALIGNMENT % ALIGNMENT;
+        let before: &[u8] = match call {
+            Call::Measure => &[],
+            Call::Render(before) => before,
+        };
+        let mut output = Guarded::new(before, shift);
+        let (tree_len, text_len) = (self.case.tree.len(), self.case.text.len());
+        let (tree, text) = (self.tree.start(), self.text.start());
+        // Sound if the library keeps to the lent parts; the guards tell of small trespasses.
+        let packed = unsafe {
+            match call {
+                Call::Measure => kinyandoma_measure(tree, tree_len, text, text_len),
+                Call::Render(_) => {
+                    let (out, out_len) = (output.start(), before.len());
+                    kinyandoma_render(tree, tree_len, text, text_len, out, out_len)
+                }
+            }
+        };
+        Outcome {
+            answer: Answer::unpacked(packed),
+            output: output.inner().to_vec(),
+            rest_untouched: output.guards_whole() && self.untouched(),
+        }
+    }
+
+    fn untouched(&self) -> bool {
+        let guards = self.tree.guards_whole() && self.text.guards_whole();
+        guards && self.tree.inner() == self.case.tree && self.text.inner() == self.case.text
+    }
+}
+
+impl Call {
+    /// 8 comes last, and a refusal writes nothing.
+    pub fn expected(&self, judged: &Judged) -> Outcome {
+        let before = match self {
+            Call::Measure => vec![],
+            Call::Render(before) => before.clone(),
+        };
+        let (number, place, output) = match (&judged.expected, self) {
+            (Err((number, place)), _) => (*number, *place, before),
+            (Ok(text), Call::Measure) => (0, text.len() as u32, before),
+            (Ok(text), Call::Render(_)) if text.len() > before.len() => {
+                (NO_ROOM, text.len() as u32, before)
+            }
+            (Ok(text), Call::Render(_)) => (0, text.len() as u32, over(before, text.as_bytes())),
+        };
+        Outcome {
+            answer: Answer { number, place },
+            output,
+            rest_untouched: true,
+        }
+    }
+}
+
+/// The text from 0 on, and beyond it what was there.
+fn over(mut before: Vec<u8>, text: &[u8]) -> Vec<u8> {
+    before[..text.len()].copy_from_slice(text);
+    before
+}

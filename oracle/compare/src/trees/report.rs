@@ -1,0 +1,159 @@
+//! Counts of trees, kinds and answers, and the first difference.
+
+use super::call::{Call, Outcome};
+use crate::hex::hex;
+use model::damage::Case;
+use model::grammar::{row, Class, LIST, NONE, NUMBER, RUN, TEXT, TOKEN};
+use model::outline::outline;
+use model::record::Record;
+use model::samples::Judged;
+use std::collections::{BTreeMap, BTreeSet};
+use std::fmt;
+
+/// One more than the last number of an answer.
+const NUMBERS: usize = 9;
+
+/// What was compared without a difference.
+#[derive(Default)]
+pub struct Counts {
+    parts: BTreeMap<&'static str, u64>,
+    /// Admitted trees with a RUN where a kind from 32 up may stand.
+    with_runs: u64,
+    kinds: BTreeMap<u16, Seen>,
+    measured: [u64; NUMBERS],
+    rendered: [u64; NUMBERS],
+}
+
+/// A kind in admitted trees.
+#[derive(Default)]
+struct Seen {
+    roots: u64,
+    all: u64,
+    flags: BTreeSet<u16>,
+}
+
+/// A call that the library answers otherwise than expected.
+pub struct Difference {
+    pub part: &'static str,
+    pub case: Case,
+    pub call: Call,
+    pub expected: Outcome,
+    pub observed: Outcome,
+}
+
+impl Counts {
+    /// Counts the tree, and the kinds of an admitted one.
+    pub fn tree(&mut self, part: &'static str, judged: &Judged) {
+        *self.parts.entry(part).or_default() += 1;
+        if judged.expected.is_err() {
+            return;
+        }
+        let mut run_for_kind = false;
+        for node in outline(&judged.case.tree) {
+            let record = Record::read(&judged.case.tree, node.index).expect("a whole tree");
+            let seen = self.kinds.entry(record.kind).or_default();
+            seen.roots += u64::from(node.index == 0);
+            seen.all += 1;
+            seen.flags.insert(record.flags);
+            run_for_kind |= record.kind == RUN && matches!(node.slot.class, Class::Kinds(..));
+        }
+        self.with_runs += u64::from(run_for_kind);
+    }
+
+    /// Counts the answer.
+    pub fn call(&mut self, call: &Call, outcome: &Outcome) {
+        let numbers = match call {
+            Call::Measure => &mut self.measured,
+            Call::Render(_) => &mut self.rendered,
+        };
+        numbers[outcome.answer.number as usize] += 1;
+    }
+}
+
+/// Tables as they are written in Markdown.
+impl fmt::Display for Counts {
+    fn fmt(&self, f: &mut fmt::Formatter<'_>) -> fmt::Result {
+        for (part, count) in &self.parts {
+            writeln!(f, "{part}: {count} times")?;
+        }
+        let with_runs = self.with_runs;
+        writeln!(f, "with a RUN in the place of a record: {with_runs} trees")?;
+        writeln!(f, "\n| Kind | At the root | In all | Flag values |")?;
+        writeln!(f, "|---|---|---|---|")?;
+        for (kind, seen) in &self.kinds {
+            let (roots, all) = (told(seen.roots), told(seen.all));
+            writeln!(
+                f,
+                "| {} | {roots} | {all} | {} |",
+                named(*kind),
+                seen.flags.len()
+            )?;
+        }
+        writeln!(f, "\n| Call | Calls | 0 | 1 | 2 | 3 | 4 | 5 | 6 | 7 | 8 |")?;
+        writeln!(f, "|---|---|---|---|---|---|---|---|---|---|---|")?;
+        for (call, numbers) in [("measure", &self.measured), ("render", &self.rendered)] {
+            write!(f, "| {call} | {} |", told(numbers.iter().sum()))?;
+            for number in numbers {
+                write!(f, " {} |", told(*number))?;
+            }
+            writeln!(f)?;
+        }
+        Ok(())
+    }
+}
+
+fn named(kind: u16) -> String {
+    let name = match kind {
+        NONE => "NONE",
+        LIST => "LIST",
+        TOKEN => "TOKEN",
+        RUN => "RUN",
+        TEXT => "TEXT",
+        NUMBER => "NUMBER",
+        kind => row(kind).map_or("", |row| row.name),
+    };
+    format!("{kind} {name}")
+}
+
+/// With a comma before each three digits.
+fn told(number: u64) -> String {
+    let digits = number.to_string();
+    let mut told = String::new();
+    for (at, digit) in digits.chars().enumerate() {
+        if at > 0 && (digits.len() - at).is_multiple_of(3) {
+            told.push(',');
+        }
+        told.push(digit);
+    }
+    told
+}
+
+impl fmt::Display for Difference {
+    fn fmt(&self, f: &mut fmt::Formatter<'_>) -> fmt::Result {
+        let call = match &self.call {
+            Call::Measure => "measure".to_string(),
+            Call::Render(before) => format!("render with room for {}", before.len()),
+        };
+        writeln!(f, "difference in {}: {call}", self.part)?;
+        writeln!(f, "tree {}", hex(&self.case.tree))?;
+        writeln!(f, "text {}", hex(&self.case.text))?;
+        if let Call::Render(before) = &self.call {
+            writeln!(f, "before {}", hex(before))?;
+        }
+        writeln!(f, "expected\n{}", self.expected)?;
+        write!(f, "observed\n{}", self.observed)
+    }
+}
+
+impl fmt::Display for Outcome {
+    fn fmt(&self, f: &mut fmt::Formatter<'_>) -> fmt::Result {
+        let rest = match self.rest_untouched {
+            true => "untouched",
+            false => "CHANGED",
+        };
+        let (number, place) = (self.answer.number, self.answer.place);
+        writeln!(f, "  answer   {number}, place {place}")?;
+        writeln!(f, "  output   {}", hex(&self.output))?;
+        write!(f, "  the rest {rest}")
+    }
+}

@@ -1,0 +1,200 @@
+//! Small kinyandoma_measure and kinyandoma_render in Rust, by the entries of the definition, with faults that can be
+//! planted in them.
+
+use crate::faults::{planted, Fault};
+use crate::stand_in;
+use entries::faults::faulty;
+use entries::interpret::{node, Corners, CORNERS};
+use entries::shape::Shape;
+use entries::{read, written, Grammar};
+use model::check::{check, DEEPEST};
+use model::grammar::LIST;
+use model::outline::outline;
+use model::record::{Record, MOST_BYTES};
+use std::slice::{from_raw_parts, from_raw_parts_mut};
+use std::sync::{LazyLock, RwLock};
+use tokens::token::Token;
+use turso_parser::token::TokenType::TK_COMMA;
+
+/// The definition, as it stands when this is built.
+const SOURCES: [&str; 4] = [
+    include_str!("../../../../crates/spelling/specs/Token.antt"),
+    include_str!("../../../../crates/grammar/specs/Kind.antt"),
+    include_str!("../../../../crates/grammar/specs/Shape.antt"),
+    include_str!("../../../../crates/grammar/specs/Grammar.antt"),
+];
+
+static GRAMMAR: LazyLock<RwLock<Grammar>> =
+    LazyLock::new(|| RwLock::new(read(SOURCES).expect("entries that can be read")));
+
+/// Number and place.
+type Refusal = (u32, u32);
+
+/// The answer for a tree that faulty entries cannot write.
+const BROKEN: Refusal = (9, 0);
+/// A shift of the number above the place.
+const NUMBER_AT: u32 = 32;
+
+/// # Safety
+/// The two parts must be valid for their lengths.
+pub unsafe extern "C" fn kinyandoma_measure(
+    tree: *const u8,
+    tree_len: usize,
+    text: *const u8,
+    text_len: usize,
+) -> u64 {
+    let (tree, text) = (
+        from_raw_parts(tree, tree_len),
+        from_raw_parts(text, text_len),
+    );
+    let length = rendered(tree, text).map(|bytes| bytes.len() as u32);
+    packed(match length {
+        Ok(length) => (0, length + u32::from(planted(Fault::LengthOneMore))),
+        Err(refusal) => refusal,
+    })
+}
+
+/// # Safety
+/// The three parts must be valid for their lengths.
+pub unsafe extern "C" fn kinyandoma_render(
+    tree: *const u8,
+    tree_len: usize,
+    text: *const u8,
+    text_len: usize,
+    out: *mut u8,
+    out_len: usize,
+) -> u64 {
+    if planted(Fault::TreeTouched) {
+        *tree.cast_mut() ^= 1;
+    }
+    let (tree, text) = (
+        from_raw_parts(tree, tree_len),
+        from_raw_parts(text, text_len),
+    );
+    // One byte more is lent than the caller said, for the faults that write it.
+    let out = from_raw_parts_mut(out, out_len + 1);
+    packed(render(tree, text, out, out_len))
+}
+
+fn packed((number, place): Refusal) -> u64 {
+    (u64::from(number) << NUMBER_AT) + u64::from(place)
+}
+
+fn render(tree: &[u8], text: &[u8], out: &mut [u8], room: usize) -> Refusal {
+    let bytes = match rendered(tree, text) {
+        Ok(bytes) => bytes,
+        Err(refusal) => {
+            spoil(Fault::RefusedTreeWrites, &mut out[..room]);
+            return refusal;
+        }
+    };
+    let length = bytes.len();
+    if length > room || planted(Fault::RoomTestStrict) && length == room {
+        spoil(Fault::NoRoomWrites, &mut out[..room]);
+        let told = if planted(Fault::RoomAsPlace) {
+            room
+        } else {
+            length
+        };
+        return (8, told as u32);
+    }
+    out[..length].copy_from_slice(&bytes);
+    if planted(Fault::OneByteBeyond) && length < room {
+        out[length] ^= 1;
+    }
+    if planted(Fault::OneBytePastRoom) {
+        out[room] ^= 1;
+    }
+    if planted(Fault::LastByteMissing) && length > 0 {
+        out[length - 1] ^= 1;
+    }
+    (0, length as u32)
+}
+
+fn spoil(fault: Fault, out: &mut [u8]) {
+    if planted(fault) {
+        out.iter_mut().take(1).for_each(|byte| *byte ^= 1);
+    }
+}
+
+fn rendered(tree: &[u8], text: &[u8]) -> Result<Vec<u8>, Refusal> {
+    match refusal(tree, text) {
+        (0, _) => {}
+        refusal => return Err(refusal),
+    }
+    let root = node(tree).map_err(|_| BROKEN)?;
+    let grammar = GRAMMAR.read().expect("no panic holds it");
+    let mut tokens = written(&grammar, corners(), &root, text).map_err(|_| BROKEN)?;
+    if planted(Fault::RootListWithoutCommas) && root.record.kind == LIST {
+        tokens.retain(|token| token.number != TK_COMMA as u16);
+    }
+    Ok(bytes_of(&tokens))
+}
+
+fn refusal(tree: &[u8], text: &[u8]) -> Refusal {
+    let (number, place) = check(tree, text);
+    let deepest = || outline(tree).iter().position(|node| node.depth == DEEPEST);
+    match number {
+        0 if planted(Fault::DepthOneLess) => deepest().map_or((0, 0), |index| (6, index as u32)),
+        0 if planted(Fault::LongestTextRefused) && text.len() == MOST_BYTES => (2, place),
+        0 if planted(Fault::LongestTreeRefused) && tree.len() == MOST_BYTES => (1, place),
+        3 if planted(Fault::WrongMarkTaken) => (4, place),
+        5 if planted(Fault::PlaceInBytes) => (5, place * Record::new(0, 0).bytes().len() as u32),
+        _ => (number, place),
+    }
+}
+
+fn corners() -> Corners {
+    let mut corners = CORNERS;
+    if planted(Fault::WhiteIsBlank) {
+        corners.white = |c| c.is_ascii_whitespace();
+    }
+    if planted(Fault::NoBreakSpaceIsNotWhite) {
+        corners.white = |c| c.is_whitespace() && c != '\u{A0}';
+    }
+    if planted(Fault::ZeroWidthSpaceIsWhite) {
+        corners.white = |c| c.is_whitespace() || c == '\u{200B}';
+    }
+    if planted(Fault::CommentOutsideLiteralsOnly) {
+        corners.commented = |source| outside_literals(source).contains("--");
+    }
+    if planted(Fault::OperatorQuotesDoubled) {
+        corners.quoted = |text| format!("'{}'", text.replace('\'', "''"));
+    }
+    corners
+}
+
+/// Each literal taken out with its quotes.
+fn outside_literals(source: &str) -> String {
+    let pieces = source.split('\'').step_by(2);
+    pieces.collect::<Vec<_>>().join("''")
+}
+
+fn bytes_of(tokens: &[Token]) -> Vec<u8> {
+    let mut bytes = vec![];
+    let mut spaced = true;
+    for token in tokens {
+        let value = token.value.as_deref().map(str::as_bytes);
+        let (added, now) = stand_in::written(spaced, token.number, value);
+        bytes.extend(added);
+        spaced = now;
+    }
+    bytes
+}
+
+/// Each kind with entries that have one fault each.
+pub fn faulty_entries() -> Vec<(u16, Shape)> {
+    let grammar = GRAMMAR.read().expect("no panic holds it");
+    let of_kind = |(kind, shape): (&u16, &Shape)| {
+        let kind = *kind;
+        faulty(shape).into_iter().map(move |copy| (kind, copy))
+    };
+    grammar.table.iter().flat_map(of_kind).collect()
+}
+
+/// Puts another entry in the place of a kind's, and answers the one that stood there.
+pub fn exchange(kind: u16, shape: Shape) -> Shape {
+    let mut grammar = GRAMMAR.write().expect("no panic holds it");
+    let before = grammar.table.insert(kind, shape);
+    before.expect("a kind of the table")
+}
