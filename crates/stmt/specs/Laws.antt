@@ -1,10 +1,11 @@
--- Laws of the statements: the two ways of an INSERT, and the groups that the kinds are in.
+-- Laws of the statements: the groups that the kinds are in, the two ways of an INSERT, and that a flagged one keeps the output's length.
 use Prim.Native.Nat.{ℕ, zero, suc, _≤_, _<_}
 use native.Mathlib.Omega.{arith}
 use mathlib.Core.Path.{_≡_, refl, _∙_, sym, ap}
 use mathlib.Core.List.{List, [], _∷_, _++_}
 use mathlib.Core.Bool.{Bool, true, false, _||_}
 use lib.Dec.{eqb}
+use lib.ListN.{length}
 use borrow.Author.Tests.{eq-eqb, ne-eqb}
 use Rattle.laws.specs.Among.{among}
 use Rattle.spelling.specs.Token.{TK-INSERT, TK-OR, TK-REPLACE}
@@ -14,10 +15,11 @@ use Rattle.grammar.specs.Kind.{RUN, REPLACE, AlterTable, Delete, Savepoint}
 use Rattle.grammar.specs.Shape.{Shape, word, slot, given, replacing, _·_}
 use Rattle.grammar.specs.Grammar.{from, run, maybe, clause, conflict, shape}
 use Rattle.grammar.specs.Slots.{allowed}
-use Rattle.tokens.specs.Tokens.{Source, of, placed, means, node}
+use Rattle.tokens.specs.Tokens.{Source, of, flagged, placed, means, node}
 use Rattle.pen.specs.declared.Pen.{Pen}
 use Rattle.pen.specs.Pen.{source, Spot, Past, Writes}
-use Rattle.pen.specs.Laws.{_▹_, puts-next}
+use Rattle.pen.specs.Laws.{_▹_, same, puts-next}
+use Rattle.pen.specs.Flags.{bits, first-bit, second-bit, third-bit}
 use Rattle.pen.specs.Places.{skipped}
 use Rattle.stmt.specs.Parts.{insertOr}
 use Rattle.stmt.specs.Groups.{before-all, behind-all, among-both, or-none}
@@ -101,3 +103,14 @@ module _ {t x w o : List ℕ} {d : ℕ} {r k : Record} {p : Pen} (read : k ≡ r
   replacing-not {b} {c} z h g =
       inserted (conflict-kind t x d (p .next) k read false (ne-eqb (k .kind) REPLACE z))
       (h ▹ or-is (other-placed t x d (p .next) k read (b .0 .next) (stays h) z) g)
+
+-- ---- whatever a record's first flags are, there is one that has them: so an output keeps its length
+module _ {e : Source} {w : List ℕ} {d : ℕ} {s : Shape} {p q : Spot} where
+  pub same-one : {a : Bool} → ((r : Record) → a ≡ flagged 0 r → Writes e w d r s p q) → length (q .1) ≡ length (p .1)
+  same-one {a} h = same (h (bits a false false) (first-bit a false false))
+
+  pub same-two : {a b : Bool} → ((r : Record) → a ≡ flagged 0 r → b ≡ flagged 1 r → Writes e w d r s p q) → length (q .1) ≡ length (p .1)
+  same-two {a} {b} h = same (h (bits a b false) (first-bit a b false) (second-bit a b false))
+
+  pub same-three : {a b c : Bool} → ((r : Record) → a ≡ flagged 0 r → b ≡ flagged 1 r → c ≡ flagged 2 r → Writes e w d r s p q) → length (q .1) ≡ length (p .1)
+  same-three {a} {b} {c} h = same (h (bits a b c) (first-bit a b c) (second-bit a b c) (third-bit a b c))

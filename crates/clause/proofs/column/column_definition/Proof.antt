@@ -28,7 +28,9 @@ returns-2 c r =
     let at-pass = at-run2 .before .before in
     let at-if1 = at-pass .before in
     let at-read = at-if1 .before .before in
-    opened refl (at-read .read .ensures) (at-if1 .if1 .left) (at-pass .pass .ensures) (at-run2 .run2 .ensures _ _ ▹ optional (at-type-name .type-name .ensures _) ▹ at-each .each .ensures _ _)
+    opened refl (at-read .read .ensures) (at-if1 .if1 .left) (at-pass .pass .ensures) (at-run2 .run2 .ensures _ _
+    ▹ optional (at-type-name .type-name .ensures _)
+    ▹ at-each .each .ensures _ _)
 
 pub column-definition-spec : {M : Type 1} → statement M
 column-definition-spec =

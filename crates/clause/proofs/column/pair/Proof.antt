@@ -23,7 +23,9 @@ returns-2 c r =
     let at-pass = at-run2 .before .before in
     let at-if1 = at-pass .before in
     let at-read = at-if1 .before .before in
-    opened refl (at-read .read .ensures) (at-if1 .if1 .left) (at-pass .pass .ensures) (at-run2 .run2 .ensures _ _ ▹ at-word .word .ensures _ _ _ ▹ at-run3 .run3 .ensures _ _)
+    opened refl (at-read .read .ensures) (at-if1 .if1 .left) (at-pass .pass .ensures) (at-run2 .run2 .ensures _ _
+    ▹ at-word .word .ensures _ _ _
+    ▹ at-run3 .run3 .ensures _ _)
 
 pub pair-spec : {M : Type 1} → statement M
 pair-spec =

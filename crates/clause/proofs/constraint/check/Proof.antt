@@ -12,7 +12,10 @@ returns c d r =
     let at-source = at-word3 .before .before .before .before in
     let at-word2 = at-source .before .before .before .before in
     let at-word = at-word2 .before .before .before .before in
-    at-word .word .ensures _ d r ▹ at-word2 .word2 .ensures _ d r ▹ at-source .source .ensures d r ▹ at-word3 .word3 .ensures _ d r
+    at-word .word .ensures _ d r
+    ▹ at-word2 .word2 .ensures _ d r
+    ▹ at-source .source .ensures d r
+    ▹ at-word3 .word3 .ensures _ d r
 
 pub check-spec : {M : Type 1} → statement M
 check-spec =

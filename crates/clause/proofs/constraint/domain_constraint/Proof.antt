@@ -25,7 +25,11 @@ returns-2 c r =
     let at-pass = at-constraint-name .before .before in
     let at-if1 = at-pass .before in
     let at-read = at-if1 .before .before in
-    opened refl (at-read .read .ensures) (at-if1 .if1 .left) (at-pass .pass .ensures) (at-constraint-name .constraint-name .ensures _ _ ▹ at-word .word .ensures _ _ _ ▹ at-word2 .word2 .ensures _ _ _ ▹ at-run2 .run2 .ensures _ _ ▹ at-word3 .word3 .ensures _ _ _)
+    opened refl (at-read .read .ensures) (at-if1 .if1 .left) (at-pass .pass .ensures) (at-constraint-name .constraint-name .ensures _ _
+    ▹ at-word .word .ensures _ _ _
+    ▹ at-word2 .word2 .ensures _ _ _
+    ▹ at-run2 .run2 .ensures _ _
+    ▹ at-word3 .word3 .ensures _ _ _)
 
 pub domain-constraint-spec : {M : Type 1} → statement M
 domain-constraint-spec =

@@ -16,7 +16,12 @@ returns c r =
     let at-in-parens = at-word3 .before .before .before .before in
     let at-word2 = at-in-parens .before .before .before .before in
     let at-word = at-word2 .before .before .before .before in
-    at-word .word .ensures _ _ r ▹ at-word2 .word2 .ensures _ _ r ▹ at-in-parens .in-parens .ensures _ r ▹ at-word3 .word3 .ensures _ _ r ▹ at-foreign-key-clause .foreign-key-clause .ensures r ▹ optional (at-run .run .ensures _ r)
+    at-word .word .ensures _ _ r
+    ▹ at-word2 .word2 .ensures _ _ r
+    ▹ at-in-parens .in-parens .ensures _ r
+    ▹ at-word3 .word3 .ensures _ _ r
+    ▹ at-foreign-key-clause .foreign-key-clause .ensures r
+    ▹ optional (at-run .run .ensures _ r)
 
 pub foreign-key-spec : {M : Type 1} → statement M
 foreign-key-spec =

@@ -17,7 +17,12 @@ returns c d r h =
     let at-word3 = at-comma .before .before .before .before in
     let at-word2 = at-word3 .before .before .before .before in
     let at-word = at-word2 .before .before .before .before in
-    at-word .word .ensures _ d r ▹ at-word2 .word2 .ensures _ d r ▹ (at-word3 .word3 .ensures _ d r ▹ (at-comma .comma .ensures d r ▹ at-word-if .word-if .ensures _ d r _ h) ▹ at-word4 .word4 .ensures _ d r) ▹ at-on-conflict .on-conflict .ensures d r
+    at-word .word .ensures _ d r
+    ▹ at-word2 .word2 .ensures _ d r
+    ▹ (at-word3 .word3 .ensures _ d r
+    ▹ (at-comma .comma .ensures d r ▹ at-word-if .word-if .ensures _ d r _ h)
+    ▹ at-word4 .word4 .ensures _ d r)
+    ▹ at-on-conflict .on-conflict .ensures d r
 
 pub primary-key-spec : {M : Type 1} → statement M
 primary-key-spec =

@@ -11,7 +11,9 @@ returns c d r =
     let at-on-conflict = c .before .before in
     let at-in-parens = at-on-conflict .before .before .before .before in
     let at-word = at-in-parens .before .before .before .before in
-    at-word .word .ensures _ d r ▹ at-in-parens .in-parens .ensures d r ▹ at-on-conflict .on-conflict .ensures d r
+    at-word .word .ensures _ d r
+    ▹ at-in-parens .in-parens .ensures d r
+    ▹ at-on-conflict .on-conflict .ensures d r
 
 pub unique-spec : {M : Type 1} → statement M
 unique-spec =

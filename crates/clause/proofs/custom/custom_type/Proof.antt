@@ -17,7 +17,12 @@ returns c r =
     let at-name = at-said-clause .before .before .before .before .before in
     let at-said = at-name .before .before .before .before in
     let at-params = at-said .before .before .before .before .before in
-    at-params .params .ensures r ▹ a-said _ refl (at-said .said .ensures) ▹ at-name .name .ensures _ r ▹ said-clause _ refl (at-said-clause .said-clause .ensures) ▹ said-clause _ refl (at-said-clause2 .said-clause2 .ensures) ▹ at-default-first .default-first .ensures r
+    at-params .params .ensures r
+    ▹ a-said _ refl (at-said .said .ensures)
+    ▹ at-name .name .ensures _ r
+    ▹ said-clause _ refl (at-said-clause .said-clause .ensures)
+    ▹ said-clause _ refl (at-said-clause2 .said-clause2 .ensures)
+    ▹ at-default-first .default-first .ensures r
 
 pub custom-type-spec : {M : Type 1} → statement M
 custom-type-spec =

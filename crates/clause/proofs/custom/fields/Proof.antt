@@ -11,7 +11,9 @@ returns c r =
     let at-word2 = c .before .before in
     let at-list = at-word2 .before .before .before .before in
     let at-word = at-list .before .before .before .before in
-    at-word .word .ensures _ _ r ▹ at-list .list .ensures r ▹ at-word2 .word2 .ensures _ _ r
+    at-word .word .ensures _ _ r
+    ▹ at-list .list .ensures r
+    ▹ at-word2 .word2 .ensures _ _ r
 
 pub fields-spec : {M : Type 1} → statement M
 fields-spec =

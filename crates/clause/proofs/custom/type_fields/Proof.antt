@@ -9,7 +9,9 @@ returns c v h r =
     let at-fields = c .before .before in
     let at-said = at-fields .before .before .before .before in
     let at-word = at-said .before .before .before .before in
-    at-word .word .ensures _ _ r ▹ a-said v h (at-said .said .ensures) ▹ at-fields .fields .ensures r
+    at-word .word .ensures _ _ r
+    ▹ a-said v h (at-said .said .ensures)
+    ▹ at-fields .fields .ensures r
 
 pub type-fields-spec : {M : Type 1} → statement M
 type-fields-spec =

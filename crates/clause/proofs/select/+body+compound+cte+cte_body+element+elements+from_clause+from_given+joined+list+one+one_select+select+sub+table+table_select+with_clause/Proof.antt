@@ -279,14 +279,32 @@ body-met t =
     (λ c κs. search needs)  -- read-requires
     (λ c κs. search needs)  -- run-requires
     (λ c. search needs)  -- same-length
-    (λ c r. shut refl (c .before .before .before .before .before .before .read .ensures) (c .before .before .before .before .if1 .taken) (c .before .before .run .ensures _ r))  -- returns
+    (λ c r.  -- returns
+    let at-run = c .before .before in
+    let at-if1 = at-run .before .before in
+    let at-read = at-if1 .before .before in
+    shut refl (at-read .read .ensures) (at-if1 .if1 .taken) (at-run .run .ensures _ r))
     (λ c κs. search needs)  -- pass-requires
     (λ c. left-some _ _ (c .before .before .if1 .left))  -- sub-one-select
-    (λ c κs. let l : 1 ≤ c .before .before .before .before .before .before .before .before .before .args .left = left-some _ _ (c .before .before .if1 .left) in (omega (arith, c .before .before .before .before .before .before .before .before .before .pre .0, l), tt))  -- one-select-requires
+    (λ c κs.  -- one-select-requires
+    let at-if1 = c .before .before in
+    let at-args = at-if1 .before .before .before .before .before .before .before in
+    let l : 1 ≤ at-args .args .left = left-some _ _ (at-if1 .if1 .left) in
+    (omega (arith, at-args .pre .0, l), tt))
     (λ c. left-some _ _ (c .before .before .before .before .before .before .if1 .left))  -- sub-list
-    (λ c κs. let l : 1 ≤ c .before .before .before .before .before .before .before .before .before .before .before .before .before .args .left = left-some _ _ (c .before .before .before .before .before .before .if1 .left) in (omega (arith, c .before .before .before .before .before .before .before .before .before .before .before .before .before .pre .0, l), tt))  -- list-requires
+    (λ c κs.  -- list-requires
+    let at-if1 = c .before .before .before .before .before .before in
+    let at-args = at-if1 .before .before .before .before .before .before .before in
+    let l : 1 ≤ at-args .args .left = left-some _ _ (at-if1 .if1 .left) in
+    (omega (arith, at-args .pre .0, l), tt))
     (λ c. search needs)  -- same-length-2
-    (λ c r. opened refl (c .before .before .before .before .before .before .before .before .before .before .before .read .ensures) (c .before .before .before .before .before .before .before .before .before .if1 .left) (c .before .before .before .before .before .before .before .before .pass .ensures) (c .before .before .before .before .before .before .one-select .ensures _ ▹ c .before .before .list .ensures _))  -- returns-2
+    (λ c r.  -- returns-2
+    let at-list = c .before .before in
+    let at-one-select = at-list .before .before .before .before in
+    let at-pass = at-one-select .before .before in
+    let at-if1 = at-pass .before in
+    let at-read = at-if1 .before .before in
+    opened refl (at-read .read .ensures) (at-if1 .if1 .left) (at-pass .pass .ensures) (at-one-select .one-select .ensures _ ▹ at-list .list .ensures _))
 
 abbrev compound-calls : ℕ → compound-lts.Claims
 compound-calls t = (read-reads.Asked, read-reads.Learnt, run-reads.Asked, run-reads.Learnt, pass-reads.Asked, pass-reads.Learnt, one-select-below t, one-select.Post)
@@ -298,13 +316,27 @@ compound-met t =
     (λ c κs. search needs)  -- read-requires
     (λ c κs. search needs)  -- run-requires
     (λ c. search needs)  -- same-length
-    (λ c r. shut refl (c .before .before .before .before .before .before .read .ensures) (c .before .before .before .before .if1 .taken) (c .before .before .run .ensures _ r))  -- returns
+    (λ c r.  -- returns
+    let at-run = c .before .before in
+    let at-if1 = at-run .before .before in
+    let at-read = at-if1 .before .before in
+    shut refl (at-read .read .ensures) (at-if1 .if1 .taken) (at-run .run .ensures _ r))
     (λ c κs. search needs)  -- pass-requires
     (λ c κs. search needs)  -- run-requires-2
     (λ c. left-some _ _ (c .before .before .before .before .before .before .if1 .left))  -- sub-one-select
-    (λ c κs. let l : 1 ≤ c .before .before .before .before .before .before .before .before .before .before .before .before .before .args .left = left-some _ _ (c .before .before .before .before .before .before .if1 .left) in (omega (arith, c .before .before .before .before .before .before .before .before .before .before .before .before .before .pre .0, l), tt))  -- one-select-requires
+    (λ c κs.  -- one-select-requires
+    let at-if1 = c .before .before .before .before .before .before in
+    let at-args = at-if1 .before .before .before .before .before .before .before in
+    let l : 1 ≤ at-args .args .left = left-some _ _ (at-if1 .if1 .left) in
+    (omega (arith, at-args .pre .0, l), tt))
     (λ c. search needs)  -- same-length-2
-    (λ c r. opened refl (c .before .before .before .before .before .before .before .before .before .before .before .read .ensures) (c .before .before .before .before .before .before .before .before .before .if1 .left) (c .before .before .before .before .before .before .before .before .pass .ensures) (c .before .before .before .before .before .before .run2 .ensures _ _ ▹ c .before .before .one-select .ensures _))  -- returns-2
+    (λ c r.  -- returns-2
+    let at-one-select = c .before .before in
+    let at-run2 = at-one-select .before .before .before .before in
+    let at-pass = at-run2 .before .before in
+    let at-if1 = at-pass .before in
+    let at-read = at-if1 .before .before in
+    opened refl (at-read .read .ensures) (at-if1 .if1 .left) (at-pass .pass .ensures) (at-run2 .run2 .ensures _ _ ▹ at-one-select .one-select .ensures _))
 
 abbrev cte-calls : ℕ → cte-lts.Claims
 cte-calls t = (read-reads.Asked, read-reads.Learnt, run-reads.Asked, run-reads.Learnt, pass-reads.Asked, pass-reads.Learnt, columns-reads.Asked, columns-reads.Learnt, word-reads.Asked, word-reads.Learnt, cte-body-below t, cte-body.Post)
@@ -316,15 +348,41 @@ cte-met t =
     (λ c κs. search needs)  -- read-requires
     (λ c κs. search needs)  -- run-requires
     (λ c. search needs)  -- same-length
-    (λ c r. shut refl (c .before .before .before .before .before .before .read .ensures) (c .before .before .before .before .if1 .taken) (c .before .before .run .ensures _ r))  -- returns
+    (λ c r.  -- returns
+    let at-run = c .before .before in
+    let at-if1 = at-run .before .before in
+    let at-read = at-if1 .before .before in
+    shut refl (at-read .read .ensures) (at-if1 .if1 .taken) (at-run .run .ensures _ r))
     (λ c κs. search needs)  -- pass-requires
     (λ c κs. search needs)  -- run-requires-2
     (λ c κs. search needs)  -- columns-requires
     (λ c κs. search needs)  -- word-requires
-    (λ c. left-some _ _ (c .before .before .before .before .before .before .before .before .before .before .before .before .before .before .if1 .left))  -- sub-cte-body
-    (λ c κs. let l : 1 ≤ c .before .before .before .before .before .before .before .before .before .before .before .before .before .before .before .before .before .before .before .before .before .args .left = left-some _ _ (c .before .before .before .before .before .before .before .before .before .before .before .before .before .before .if1 .left) in (omega (arith, c .before .before .before .before .before .before .before .before .before .before .before .before .before .before .before .before .before .before .before .before .before .pre .0, l), tt))  -- cte-body-requires
-    (λ c. same {r = blank} (opened refl (c .before .before .before .before .before .before .before .before .before .before .before .before .before .before .before .before .before .before .before .read .ensures) (c .before .before .before .before .before .before .before .before .before .before .before .before .before .before .before .before .before .if1 .left) (c .before .before .before .before .before .before .before .before .before .before .before .before .before .before .before .before .pass .ensures) (c .before .before .before .before .before .before .before .before .before .before .before .before .before .before .run2 .ensures _ _ ▹ c .before .before .before .before .before .before .before .before .before .before .columns .ensures _ _ ▹ c .before .before .before .before .before .before .word .ensures _ _ _ ▹ c .before .before .cte-body .ensures _ refl)))  -- same-length-2
-    (λ c r. opened refl (c .before .before .before .before .before .before .before .before .before .before .before .before .before .before .before .before .before .before .before .read .ensures) (c .before .before .before .before .before .before .before .before .before .before .before .before .before .before .before .before .before .if1 .left) (c .before .before .before .before .before .before .before .before .before .before .before .before .before .before .before .before .pass .ensures) (c .before .before .before .before .before .before .before .before .before .before .before .before .before .before .run2 .ensures _ _ ▹ c .before .before .before .before .before .before .before .before .before .before .columns .ensures _ _ ▹ c .before .before .before .before .before .before .word .ensures _ _ _ ▹ c .before .before .cte-body .ensures _ refl))  -- returns-2
+    (λ c.  -- sub-cte-body
+    let at-if1 = c .before .before .before .before .before .before .before .before .before .before .before .before .before .before in
+    left-some _ _ (at-if1 .if1 .left))
+    (λ c κs.  -- cte-body-requires
+    let at-if1 = c .before .before .before .before .before .before .before .before .before .before .before .before .before .before in
+    let at-args = at-if1 .before .before .before .before .before .before .before in
+    let l : 1 ≤ at-args .args .left = left-some _ _ (at-if1 .if1 .left) in
+    (omega (arith, at-args .pre .0, l), tt))
+    (λ c.  -- same-length-2
+    let at-cte-body = c .before .before in
+    let at-word = at-cte-body .before .before .before .before in
+    let at-columns = at-word .before .before .before .before in
+    let at-run2 = at-columns .before .before .before .before in
+    let at-pass = at-run2 .before .before in
+    let at-if1 = at-pass .before in
+    let at-read = at-if1 .before .before in
+    same {r = blank} (opened refl (at-read .read .ensures) (at-if1 .if1 .left) (at-pass .pass .ensures) (at-run2 .run2 .ensures _ _ ▹ at-columns .columns .ensures _ _ ▹ at-word .word .ensures _ _ _ ▹ at-cte-body .cte-body .ensures _ refl)))
+    (λ c r.  -- returns-2
+    let at-cte-body = c .before .before in
+    let at-word = at-cte-body .before .before .before .before in
+    let at-columns = at-word .before .before .before .before in
+    let at-run2 = at-columns .before .before .before .before in
+    let at-pass = at-run2 .before .before in
+    let at-if1 = at-pass .before in
+    let at-read = at-if1 .before .before in
+    opened refl (at-read .read .ensures) (at-if1 .if1 .left) (at-pass .pass .ensures) (at-run2 .run2 .ensures _ _ ▹ at-columns .columns .ensures _ _ ▹ at-word .word .ensures _ _ _ ▹ at-cte-body .cte-body .ensures _ refl))
 
 abbrev cte-body-calls : ℕ → cte-body-lts.Claims
 cte-body-calls t = (materialized-reads.Asked, materialized-reads.Learnt, not-materialized-reads.Asked, not-materialized-reads.Learnt, word-reads.Asked, word-reads.Learnt, select-below t, select.Post)
@@ -335,10 +393,25 @@ cte-body-met t =
     (λ c κs. search needs)  -- materialized-requires
     (λ c κs. search needs)  -- not-materialized-requires
     (λ c κs. search needs)  -- word-requires
-    (λ c κs. (omega (arith, c .before .before .before .before .before .before .before .before .before .before .before .before .before .before .before .before .before .pre .0), tt))  -- select-requires
+    (λ c κs.  -- select-requires
+    let at-pre = c .before .before .before .before .before .before .before .before .before .before .before .before .before .before .before .before .before in
+    (omega (arith, at-pre .pre .0), tt))
     (λ c κs. search needs)  -- word-requires-2
-    (λ c. same (c .before .before .before .before .before .before .before .before .before .before .before .before .before .before .before .before .before .before .materialized .ensures _ _ (record { mark = 0; kind = 0; flags = c .before .before .before .before .before .before .before .before .before .before .before .before .before .before .before .before .before .before .before .before .before .before .before .before .args .flags; kids = 0; start = 0; len = 0 }) refl ▹ c .before .before .before .before .before .before .before .before .before .before .before .before .before .before .not-materialized .ensures _ _ (record { mark = 0; kind = 0; flags = c .before .before .before .before .before .before .before .before .before .before .before .before .before .before .before .before .before .before .before .before .before .before .before .before .args .flags; kids = 0; start = 0; len = 0 }) refl ▹ c .before .before .before .before .before .before .before .before .before .before .word .ensures _ _ _ ▹ c .before .before .before .before .before .before .select .ensures _ ▹ c .before .before .word2 .ensures _ _ _))  -- same-length
-    (λ c r h. c .before .before .before .before .before .before .before .before .before .before .before .before .before .before .before .before .before .before .materialized .ensures _ _ r h ▹ c .before .before .before .before .before .before .before .before .before .before .before .before .before .before .not-materialized .ensures _ _ r h ▹ c .before .before .before .before .before .before .before .before .before .before .word .ensures _ _ r ▹ c .before .before .before .before .before .before .select .ensures r ▹ c .before .before .word2 .ensures _ _ r)  -- returns
+    (λ c.  -- same-length
+    let at-word2 = c .before .before in
+    let at-select = at-word2 .before .before .before .before in
+    let at-word = at-select .before .before .before .before in
+    let at-not-materialized = at-word .before .before .before .before in
+    let at-materialized = at-not-materialized .before .before .before .before in
+    let at-args = at-materialized .before .before .before .before .before .before in
+    same (at-materialized .materialized .ensures _ _ (record { mark = 0; kind = 0; flags = at-args .args .flags; kids = 0; start = 0; len = 0 }) refl ▹ at-not-materialized .not-materialized .ensures _ _ (record { mark = 0; kind = 0; flags = at-args .args .flags; kids = 0; start = 0; len = 0 }) refl ▹ at-word .word .ensures _ _ _ ▹ at-select .select .ensures _ ▹ at-word2 .word2 .ensures _ _ _))
+    (λ c r h.  -- returns
+    let at-word2 = c .before .before in
+    let at-select = at-word2 .before .before .before .before in
+    let at-word = at-select .before .before .before .before in
+    let at-not-materialized = at-word .before .before .before .before in
+    let at-materialized = at-not-materialized .before .before .before .before in
+    at-materialized .materialized .ensures _ _ r h ▹ at-not-materialized .not-materialized .ensures _ _ r h ▹ at-word .word .ensures _ _ r ▹ at-select .select .ensures r ▹ at-word2 .word2 .ensures _ _ r)
 
 abbrev element-calls : ℕ → element-lts.Claims
 element-calls t = (column-definition-reads.Asked, column-definition-reads.Learnt, named-table-constraint-reads.Asked, named-table-constraint-reads.Learnt, type-field-reads.Asked, type-field-reads.Learnt, type-param-reads.Asked, type-param-reads.Learnt, operator-clause-reads.Asked, operator-clause-reads.Learnt, domain-constraint-reads.Asked, domain-constraint-reads.Learnt, pair-reads.Asked, pair-reads.Learnt, cte-below t, cte.Post, compound-below t, compound.Post, joined-below t, joined.Post, run-reads.Asked, run-reads.Learnt)
@@ -352,7 +425,10 @@ element-met t =
     (λ c r. rw (c .before .before .before .before .if1 .taken) (c .before .before .column-definition .ensures r))  -- returns
     (λ c κs. search needs)  -- named-table-constraint-requires
     (λ c. search needs)  -- same-length-2
-    (λ c r. rw (c .before .before .before .before .if2 .taken) (c .before .before .named-table-constraint .ensures r))  -- returns-2
+    (λ c r.  -- returns-2
+    let at-named-table-constraint = c .before .before in
+    let at-if2 = at-named-table-constraint .before .before in
+    rw (at-if2 .if2 .taken) (at-named-table-constraint .named-table-constraint .ensures r))
     (λ c κs. search needs)  -- type-field-requires
     (λ c. search needs)  -- same-length-3
     (λ c r. rw (c .before .before .before .before .if3 .taken) (c .before .before .type-field .ensures r))  -- returns-3
@@ -368,18 +444,36 @@ element-met t =
     (λ c κs. search needs)  -- pair-requires
     (λ c. search needs)  -- same-length-7
     (λ c r. rw (c .before .before .before .before .if7 .taken) (c .before .before .pair .ensures r))  -- returns-7
-    (λ c κs. (omega (arith, c .before .before .before .before .before .before .before .before .before .before .before .before .before .pre .0), tt))  -- cte-requires
+    (λ c κs.  -- cte-requires
+    let at-pre = c .before .before .before .before .before .before .before .before .before .before .before .before .before in
+    (omega (arith, at-pre .pre .0), tt))
     (λ c. search needs)  -- same-length-8
     (λ c r. rw (c .before .before .before .before .if8 .taken) (c .before .before .cte .ensures r))  -- returns-8
-    (λ c κs. (omega (arith, c .before .before .before .before .before .before .before .before .before .before .before .before .before .before .pre .0), tt))  -- compound-requires
+    (λ c κs.  -- compound-requires
+    let at-pre = c .before .before .before .before .before .before .before .before .before .before .before .before .before .before in
+    (omega (arith, at-pre .pre .0), tt))
     (λ c. search needs)  -- same-length-9
     (λ c r. rw (c .before .before .before .before .if9 .taken) (c .before .before .compound .ensures r))  -- returns-9
-    (λ c κs. (omega (arith, c .before .before .before .before .before .before .before .before .before .before .before .before .before .before .before .pre .0), tt))  -- joined-requires
+    (λ c κs.  -- joined-requires
+    let at-pre = c .before .before .before .before .before .before .before .before .before .before .before .before .before .before .before in
+    (omega (arith, at-pre .pre .0), tt))
     (λ c. search needs)  -- same-length-10
     (λ c r. rw (c .before .before .before .before .if10 .taken) (c .before .before .joined .ensures r))  -- returns-10
     (λ c κs. search needs)  -- run-requires
     (λ c. search needs)  -- same-length-11
-    (λ c r. rw (ne-eqb _ ColumnDefinition (c .before .before .before .before .before .before .before .before .before .before .before .before .before .if1 .left), ne-eqb _ NamedTableConstraint (c .before .before .before .before .before .before .before .before .before .before .before .before .if2 .left), ne-eqb _ TypeField (c .before .before .before .before .before .before .before .before .before .before .before .if3 .left), ne-eqb _ TypeParam (c .before .before .before .before .before .before .before .before .before .before .if4 .left), ne-eqb _ OperatorClause (c .before .before .before .before .before .before .before .before .before .if5 .left), ne-eqb _ DomainConstraint (c .before .before .before .before .before .before .before .before .if6 .left), ne-eqb _ Pair (c .before .before .before .before .before .before .before .if7 .left), ne-eqb _ CommonTableExpr (c .before .before .before .before .before .before .if8 .left), ne-eqb _ CompoundSelect (c .before .before .before .before .before .if9 .left), ne-eqb _ JoinedTable (c .before .before .before .before .if10 .left)) (c .before .before .run .ensures _ r))  -- returns-11
+    (λ c r.  -- returns-11
+    let at-run = c .before .before in
+    let at-if10 = at-run .before .before in
+    let at-if9 = at-if10 .before in
+    let at-if8 = at-if9 .before in
+    let at-if7 = at-if8 .before in
+    let at-if6 = at-if7 .before in
+    let at-if5 = at-if6 .before in
+    let at-if4 = at-if5 .before in
+    let at-if3 = at-if4 .before in
+    let at-if2 = at-if3 .before in
+    let at-if1 = at-if2 .before in
+    rw (ne-eqb _ ColumnDefinition (at-if1 .if1 .left), ne-eqb _ NamedTableConstraint (at-if2 .if2 .left), ne-eqb _ TypeField (at-if3 .if3 .left), ne-eqb _ TypeParam (at-if4 .if4 .left), ne-eqb _ OperatorClause (at-if5 .if5 .left), ne-eqb _ DomainConstraint (at-if6 .if6 .left), ne-eqb _ Pair (at-if7 .if7 .left), ne-eqb _ CommonTableExpr (at-if8 .if8 .left), ne-eqb _ CompoundSelect (at-if9 .if9 .left), ne-eqb _ JoinedTable (at-if10 .if10 .left)) (at-run .run .ensures _ r))
 
 -- what is left of the row from here is what was to be written at the start
 abbrev elements-Inv-loop : elements-lts.InvT-loop
@@ -399,10 +493,17 @@ elements-met t =
     elements-lts.spec (elements-calls t) (elements-at t) elements.Post elements-Inv-loop elements-μ-loop
     (λ c. refl)  -- loop-holds
     (λ c κs. search needs)  -- comma-if-requires
-    (λ c κs. (omega (arith, c .before .before .before .before .before .before .before .before .before .before .before .pre .0), tt))  -- element-requires
+    (λ c κs.  -- element-requires
+    let at-pre = c .before .before .before .before .before .before .before .before .before .before .before in
+    (omega (arith, at-pre .pre .0), tt))
     (λ c. search needs)  -- sub-rest
     (λ c. search needs)  -- loop-less
-    (λ c. row-first _ _ _ _ (c .before .before .before .before .before .before .before .before .loop-test .taken) (c .before .before .before .before .before .before .comma-if .ensures) (c .before .before .element .ensures blank .puts) ∙ c .before .before .before .before .before .before .before .before .before .loop .inv)  -- loop-again
+    (λ c.  -- loop-again
+    let at-element = c .before .before in
+    let at-comma-if = at-element .before .before .before .before in
+    let at-loop-test = at-comma-if .before .before in
+    let at-loop = at-loop-test .before in
+    row-first _ _ _ _ (at-loop-test .loop-test .taken) (at-comma-if .comma-if .ensures) (at-element .element .ensures blank .puts) ∙ at-loop .loop .inv)
     (λ c. puts-length (row-done _ _ _ _ (c .loop-test .left) (c .before .loop .inv)))  -- same-length
     (λ c. row-done _ _ _ _ (c .loop-test .left) (c .before .loop .inv))  -- returns
 
@@ -416,14 +517,32 @@ from-clause-met t =
     (λ c κs. search needs)  -- read-requires
     (λ c κs. search needs)  -- run-requires
     (λ c. search needs)  -- same-length
-    (λ c r. shut refl (c .before .before .before .before .before .before .read .ensures) (c .before .before .before .before .if1 .taken) (c .before .before .run .ensures _ r))  -- returns
+    (λ c r.  -- returns
+    let at-run = c .before .before in
+    let at-if1 = at-run .before .before in
+    let at-read = at-if1 .before .before in
+    shut refl (at-read .read .ensures) (at-if1 .if1 .taken) (at-run .run .ensures _ r))
     (λ c κs. search needs)  -- pass-requires
     (λ c. left-some _ _ (c .before .before .if1 .left))  -- sub-table
-    (λ c κs. let l : 1 ≤ c .before .before .before .before .before .before .before .before .before .args .left = left-some _ _ (c .before .before .if1 .left) in (omega (arith, c .before .before .before .before .before .before .before .before .before .pre .0, l), tt))  -- table-requires
+    (λ c κs.  -- table-requires
+    let at-if1 = c .before .before in
+    let at-args = at-if1 .before .before .before .before .before .before .before in
+    let l : 1 ≤ at-args .args .left = left-some _ _ (at-if1 .if1 .left) in
+    (omega (arith, at-args .pre .0, l), tt))
     (λ c. left-some _ _ (c .before .before .before .before .before .before .if1 .left))  -- sub-list
-    (λ c κs. let l : 1 ≤ c .before .before .before .before .before .before .before .before .before .before .before .before .before .args .left = left-some _ _ (c .before .before .before .before .before .before .if1 .left) in (omega (arith, c .before .before .before .before .before .before .before .before .before .before .before .before .before .pre .0, l), tt))  -- list-requires
+    (λ c κs.  -- list-requires
+    let at-if1 = c .before .before .before .before .before .before in
+    let at-args = at-if1 .before .before .before .before .before .before .before in
+    let l : 1 ≤ at-args .args .left = left-some _ _ (at-if1 .if1 .left) in
+    (omega (arith, at-args .pre .0, l), tt))
     (λ c. search needs)  -- same-length-2
-    (λ c r. opened refl (c .before .before .before .before .before .before .before .before .before .before .before .read .ensures) (c .before .before .before .before .before .before .before .before .before .if1 .left) (c .before .before .before .before .before .before .before .before .pass .ensures) (c .before .before .before .before .before .before .table .ensures _ ▹ c .before .before .list .ensures _))  -- returns-2
+    (λ c r.  -- returns-2
+    let at-list = c .before .before in
+    let at-table = at-list .before .before .before .before in
+    let at-pass = at-table .before .before in
+    let at-if1 = at-pass .before in
+    let at-read = at-if1 .before .before in
+    opened refl (at-read .read .ensures) (at-if1 .if1 .left) (at-pass .pass .ensures) (at-table .table .ensures _ ▹ at-list .list .ensures _))
 
 abbrev from-given-calls : ℕ → from-given-lts.Claims
 from-given-calls t = (read-reads.Asked, read-reads.Learnt, pass-reads.Asked, pass-reads.Learnt, word-reads.Asked, word-reads.Learnt, from-clause-below t, from-clause.Post)
@@ -435,9 +554,16 @@ from-given-met t =
     (λ c κs. search needs)  -- pass-requires
     (λ c r. given-none (c .before .before .before .read .ensures) (c .before .if1 .taken) (c .pass .ensures))  -- returns
     (λ c κs. search needs)  -- word-requires
-    (λ c κs. (omega (arith, c .before .before .before .before .before .before .before .before .before .before .before .before .pre .0), tt))  -- from-clause-requires
+    (λ c κs.  -- from-clause-requires
+    let at-pre = c .before .before .before .before .before .before .before .before .before .before .before .before in
+    (omega (arith, at-pre .pre .0), tt))
     (λ c. search needs)  -- same-length
-    (λ c r. given-some (c .before .before .before .before .before .before .before .before .before .before .read .ensures) (c .before .before .before .before .before .before .before .before .if1 .left) (c .before .before .before .before .before .before .word .ensures _ _ r ▹ optional (c .before .before .from-clause .ensures r)))  -- returns-2
+    (λ c r.  -- returns-2
+    let at-from-clause = c .before .before in
+    let at-word = at-from-clause .before .before .before .before in
+    let at-if1 = at-word .before .before in
+    let at-read = at-if1 .before .before in
+    given-some (at-read .read .ensures) (at-if1 .if1 .left) (at-word .word .ensures _ _ r ▹ optional (at-from-clause .from-clause .ensures r)))
 
 abbrev joined-calls : ℕ → joined-lts.Claims
 joined-calls t = (read-reads.Asked, read-reads.Learnt, run-reads.Asked, run-reads.Learnt, pass-reads.Asked, pass-reads.Learnt, table-below t, table.Post, join-constraint-reads.Asked, join-constraint-reads.Learnt)
@@ -449,15 +575,32 @@ joined-met t =
     (λ c κs. search needs)  -- read-requires
     (λ c κs. search needs)  -- run-requires
     (λ c. search needs)  -- same-length
-    (λ c r. shut refl (c .before .before .before .before .before .before .read .ensures) (c .before .before .before .before .if1 .taken) (c .before .before .run .ensures _ r))  -- returns
+    (λ c r.  -- returns
+    let at-run = c .before .before in
+    let at-if1 = at-run .before .before in
+    let at-read = at-if1 .before .before in
+    shut refl (at-read .read .ensures) (at-if1 .if1 .taken) (at-run .run .ensures _ r))
     (λ c κs. search needs)  -- pass-requires
     (λ c κs. search needs)  -- run-requires-2
     (λ c. left-some _ _ (c .before .before .before .before .before .before .if1 .left))  -- sub-table
-    (λ c κs. let l : 1 ≤ c .before .before .before .before .before .before .before .before .before .before .before .before .before .args .left = left-some _ _ (c .before .before .before .before .before .before .if1 .left) in (omega (arith, c .before .before .before .before .before .before .before .before .before .before .before .before .before .pre .0, l), tt))  -- table-requires
-    (λ c. left-some _ _ (c .before .before .before .before .before .before .before .before .before .before .if1 .left))  -- sub-join-constraint
+    (λ c κs.  -- table-requires
+    let at-if1 = c .before .before .before .before .before .before in
+    let at-args = at-if1 .before .before .before .before .before .before .before in
+    let l : 1 ≤ at-args .args .left = left-some _ _ (at-if1 .if1 .left) in
+    (omega (arith, at-args .pre .0, l), tt))
+    (λ c.  -- sub-join-constraint
+    let at-if1 = c .before .before .before .before .before .before .before .before .before .before in
+    left-some _ _ (at-if1 .if1 .left))
     (λ c κs. search needs)  -- join-constraint-requires
     (λ c. search needs)  -- same-length-2
-    (λ c r. opened refl (c .before .before .before .before .before .before .before .before .before .before .before .before .before .before .before .read .ensures) (c .before .before .before .before .before .before .before .before .before .before .before .before .before .if1 .left) (c .before .before .before .before .before .before .before .before .before .before .before .before .pass .ensures) (c .before .before .before .before .before .before .before .before .before .before .run2 .ensures _ _ ▹ c .before .before .before .before .before .before .table .ensures _ ▹ optional (c .before .before .join-constraint .ensures _)))  -- returns-2
+    (λ c r.  -- returns-2
+    let at-join-constraint = c .before .before in
+    let at-table = at-join-constraint .before .before .before .before in
+    let at-run2 = at-table .before .before .before .before in
+    let at-pass = at-run2 .before .before in
+    let at-if1 = at-pass .before in
+    let at-read = at-if1 .before .before in
+    opened refl (at-read .read .ensures) (at-if1 .if1 .left) (at-pass .pass .ensures) (at-run2 .run2 .ensures _ _ ▹ at-table .table .ensures _ ▹ optional (at-join-constraint .join-constraint .ensures _)))
 
 abbrev list-calls : ℕ → list-lts.Claims
 list-calls t = (read-reads.Asked, read-reads.Learnt, pass-reads.Asked, pass-reads.Learnt, elements-below t, elements.Post)
@@ -467,10 +610,20 @@ list-met t =
     list-lts.spec (list-calls t) (list-at t) list.Post
     (λ c κs. search needs)  -- read-requires
     (λ c κs. search needs)  -- pass-requires
-    (λ c r. either _ (c .before .before .before .before .before .before .before .before .args .commas) (no-list (c .before .before .before .before .before .before .before .before .args .text .now) _ _ (c .before .before .before .read .ensures) (c .before .before .pass .ensures) (c .if1 .taken)))  -- returns
+    (λ c r.  -- returns
+    let at-pass = c .before .before in
+    let at-read = at-pass .before in
+    let at-args = at-read .before .before .before .before .before in
+    either _ (at-args .args .commas) (no-list (at-args .args .text .now) _ _ (at-read .read .ensures) (at-pass .pass .ensures) (c .if1 .taken)))
     (λ c κs. (omega (arith, c .before .before .before .before .before .before .before .before .before .pre .0), tt))  -- elements-requires
     (λ c. search needs)  -- same-length
-    (λ c r. either _ (c .before .before .before .before .before .before .before .before .before .before .before .before .args .commas) (a-list (c .before .before .before .before .before .before .before .before .before .before .before .before .args .text .now) _ _ (c .before .before .before .before .before .before .before .read .ensures) (c .before .before .before .before .before .before .pass .ensures) (c .before .before .before .before .if1 .left) (c .before .before .elements .ensures)))  -- returns-2
+    (λ c r.  -- returns-2
+    let at-elements = c .before .before in
+    let at-if1 = at-elements .before .before in
+    let at-pass = at-if1 .before .before in
+    let at-read = at-pass .before in
+    let at-args = at-read .before .before .before .before .before in
+    either _ (at-args .args .commas) (a-list (at-args .args .text .now) _ _ (at-read .read .ensures) (at-pass .pass .ensures) (at-if1 .if1 .left) (at-elements .elements .ensures)))
 
 abbrev one-calls : ℕ → one-lts.Claims
 one-calls t = (word-reads.Asked, word-reads.Learnt, run-reads.Asked, run-reads.Learnt, comma-reads.Asked, comma-reads.Learnt, from-given-below t, from-given.Post, filters-reads.Asked, filters-reads.Learnt)
@@ -482,10 +635,24 @@ one-met t =
     (λ c κs. search needs)  -- word-requires
     (λ c κs. search needs)  -- run-requires
     (λ c κs. search needs)  -- comma-requires
-    (λ c κs. (omega (arith, c .before .before .before .before .before .before .before .before .before .before .before .before .before .before .before .before .before .pre .0), tt))  -- from-given-requires
+    (λ c κs.  -- from-given-requires
+    let at-pre = c .before .before .before .before .before .before .before .before .before .before .before .before .before .before .before .before .before in
+    (omega (arith, at-pre .pre .0), tt))
     (λ c κs. search needs)  -- filters-requires
-    (λ c. same (c .before .before .before .before .before .before .before .before .before .before .before .before .before .before .before .before .before .before .word .ensures _ _ blank ▹ optional (c .before .before .before .before .before .before .before .before .before .before .before .before .before .before .run .ensures _ blank) ▹ c .before .before .before .before .before .before .before .before .before .before .comma .ensures _ blank ▹ c .before .before .before .before .before .before .from-given .ensures blank ▹ c .before .before .filters .ensures _ blank))  -- same-length
-    (λ c r. c .before .before .before .before .before .before .before .before .before .before .before .before .before .before .before .before .before .before .word .ensures _ _ r ▹ optional (c .before .before .before .before .before .before .before .before .before .before .before .before .before .before .run .ensures _ r) ▹ c .before .before .before .before .before .before .before .before .before .before .comma .ensures _ r ▹ c .before .before .before .before .before .before .from-given .ensures r ▹ c .before .before .filters .ensures _ r)  -- returns
+    (λ c.  -- same-length
+    let at-filters = c .before .before in
+    let at-from-given = at-filters .before .before .before .before in
+    let at-comma = at-from-given .before .before .before .before in
+    let at-run = at-comma .before .before .before .before in
+    let at-word = at-run .before .before .before .before in
+    same (at-word .word .ensures _ _ blank ▹ optional (at-run .run .ensures _ blank) ▹ at-comma .comma .ensures _ blank ▹ at-from-given .from-given .ensures blank ▹ at-filters .filters .ensures _ blank))
+    (λ c r.  -- returns
+    let at-filters = c .before .before in
+    let at-from-given = at-filters .before .before .before .before in
+    let at-comma = at-from-given .before .before .before .before in
+    let at-run = at-comma .before .before .before .before in
+    let at-word = at-run .before .before .before .before in
+    at-word .word .ensures _ _ r ▹ optional (at-run .run .ensures _ r) ▹ at-comma .comma .ensures _ r ▹ at-from-given .from-given .ensures r ▹ at-filters .filters .ensures _ r)
 
 abbrev one-select-calls : ℕ → one-select-lts.Claims
 one-select-calls t = (read-reads.Asked, read-reads.Learnt, run-reads.Asked, run-reads.Learnt, pass-reads.Asked, pass-reads.Learnt, one-below t, one.Post, values-reads.Asked, values-reads.Learnt)
@@ -497,18 +664,42 @@ one-select-met t =
     (λ c κs. search needs)  -- read-requires
     (λ c κs. search needs)  -- run-requires
     (λ c. search needs)  -- same-length
-    (λ c r. shallow (c .before .before .before .before .before .read .ensures) (c .before .before .run .ensures _ r) (c .before .before .before .before .if1 .taken) refl)  -- returns
+    (λ c r.  -- returns
+    let at-run = c .before .before in
+    let at-if1 = at-run .before .before in
+    let at-read = at-if1 .before in
+    shallow (at-read .read .ensures) (at-run .run .ensures _ r) (at-if1 .if1 .taken) refl)
     (λ c κs. search needs)  -- pass-requires
     (λ c. search needs)  -- sub-one
-    (λ c κs. (omega (arith, c .before .before .before .before .before .before .before .before .before .before .pre .0, c .before .before .before .before .if1 .left), tt))  -- one-requires
+    (λ c κs.  -- one-requires
+    let at-if1 = c .before .before .before .before in
+    let at-pre = at-if1 .before .before .before .before .before .before in
+    (omega (arith, at-pre .pre .0, at-if1 .if1 .left), tt))
     (λ c. search needs)  -- same-length-2
-    (λ c r. node-on (c .before .before .before .before .before .before .before .before .read .ensures) OneSelect (c .before .before .before .before .if2 .taken) refl (c .before .before .before .before .before .before .before .if1 .left) (c .before .before .before .before .before .before .pass .ensures) (c .before .before .one .ensures _))  -- returns-2
+    (λ c r.  -- returns-2
+    let at-one = c .before .before in
+    let at-if2 = at-one .before .before in
+    let at-pass = at-if2 .before .before in
+    let at-if1 = at-pass .before in
+    let at-read = at-if1 .before in
+    node-on (at-read .read .ensures) OneSelect (at-if2 .if2 .taken) refl (at-if1 .if1 .left) (at-pass .pass .ensures) (at-one .one .ensures _))
     (λ c κs. search needs)  -- values-requires
     (λ c. search needs)  -- same-length-3
-    (λ c r. node-on (c .before .before .before .before .before .before .before .before .before .before .read .ensures) Values (c .before .before .before .before .if3 .taken) refl (c .before .before .before .before .before .before .before .before .before .if1 .left) (c .before .before .before .before .before .before .before .before .pass .ensures) (c .before .before .values .ensures _ _))  -- returns-3
+    (λ c r.  -- returns-3
+    let at-values = c .before .before in
+    let at-if3 = at-values .before .before in
+    let at-pass = at-if3 .before .before .before .before in
+    let at-if1 = at-pass .before in
+    let at-read = at-if1 .before in
+    node-on (at-read .read .ensures) Values (at-if3 .if3 .taken) refl (at-if1 .if1 .left) (at-pass .pass .ensures) (at-values .values .ensures _ _))
     (λ c κs. search needs)  -- run-requires-2
     (λ c. search needs)  -- same-length-4
-    (λ c r. other (c .before .before .before .before .before .before .before .before .before .before .read .ensures) (c .before .before .run2 .ensures _ r) (rw (ne-eqb _ OneSelect (c .before .before .before .before .before .before .if2 .left), ne-eqb _ Values (c .before .before .before .before .if3 .left))))  -- returns-4
+    (λ c r.  -- returns-4
+    let at-run2 = c .before .before in
+    let at-if3 = at-run2 .before .before in
+    let at-if2 = at-if3 .before .before in
+    let at-read = at-if2 .before .before .before .before in
+    other (at-read .read .ensures) (at-run2 .run2 .ensures _ r) (rw (ne-eqb _ OneSelect (at-if2 .if2 .left), ne-eqb _ Values (at-if3 .if3 .left))))
 
 abbrev select-calls : ℕ → select-lts.Claims
 select-calls t = (read-reads.Asked, read-reads.Learnt, run-reads.Asked, run-reads.Learnt, pass-reads.Asked, pass-reads.Learnt, with-clause-below t, with-clause.Post, body-below t, body.Post)
@@ -520,16 +711,44 @@ select-met t =
     (λ c κs. search needs)  -- read-requires
     (λ c κs. search needs)  -- run-requires
     (λ c. search needs)  -- same-length
-    (λ c r. shut refl (c .before .before .before .before .before .before .read .ensures) (c .before .before .before .before .if1 .taken) (c .before .before .run .ensures _ r))  -- returns
+    (λ c r.  -- returns
+    let at-run = c .before .before in
+    let at-if1 = at-run .before .before in
+    let at-read = at-if1 .before .before in
+    shut refl (at-read .read .ensures) (at-if1 .if1 .taken) (at-run .run .ensures _ r))
     (λ c κs. search needs)  -- pass-requires
     (λ c. left-some _ _ (c .before .before .if1 .left))  -- sub-with-clause
-    (λ c κs. let l : 1 ≤ c .before .before .before .before .before .before .before .before .before .args .left = left-some _ _ (c .before .before .if1 .left) in (omega (arith, c .before .before .before .before .before .before .before .before .before .pre .0, l), tt))  -- with-clause-requires
+    (λ c κs.  -- with-clause-requires
+    let at-if1 = c .before .before in
+    let at-args = at-if1 .before .before .before .before .before .before .before in
+    let l : 1 ≤ at-args .args .left = left-some _ _ (at-if1 .if1 .left) in
+    (omega (arith, at-args .pre .0, l), tt))
     (λ c. left-some _ _ (c .before .before .before .before .before .before .if1 .left))  -- sub-body
-    (λ c κs. let l : 1 ≤ c .before .before .before .before .before .before .before .before .before .before .before .before .before .args .left = left-some _ _ (c .before .before .before .before .before .before .if1 .left) in (omega (arith, c .before .before .before .before .before .before .before .before .before .before .before .before .before .pre .0, l), tt))  -- body-requires
+    (λ c κs.  -- body-requires
+    let at-if1 = c .before .before .before .before .before .before in
+    let at-args = at-if1 .before .before .before .before .before .before .before in
+    let l : 1 ≤ at-args .args .left = left-some _ _ (at-if1 .if1 .left) in
+    (omega (arith, at-args .pre .0, l), tt))
     (λ c κs. search needs)  -- run-requires-2
     (λ c κs. search needs)  -- run-requires-3
-    (λ c. same {r = blank} (opened refl (c .before .before .before .before .before .before .before .before .before .before .before .before .before .before .before .before .before .before .before .read .ensures) (c .before .before .before .before .before .before .before .before .before .before .before .before .before .before .before .before .before .if1 .left) (c .before .before .before .before .before .before .before .before .before .before .before .before .before .before .before .before .pass .ensures) (optional (c .before .before .before .before .before .before .before .before .before .before .before .before .before .before .with-clause .ensures _) ▹ c .before .before .before .before .before .before .before .before .before .before .body .ensures _ ▹ optional (c .before .before .before .before .before .before .run2 .ensures _ _) ▹ optional (c .before .before .run3 .ensures _ _))))  -- same-length-2
-    (λ c r. opened refl (c .before .before .before .before .before .before .before .before .before .before .before .before .before .before .before .before .before .before .before .read .ensures) (c .before .before .before .before .before .before .before .before .before .before .before .before .before .before .before .before .before .if1 .left) (c .before .before .before .before .before .before .before .before .before .before .before .before .before .before .before .before .pass .ensures) (optional (c .before .before .before .before .before .before .before .before .before .before .before .before .before .before .with-clause .ensures _) ▹ c .before .before .before .before .before .before .before .before .before .before .body .ensures _ ▹ optional (c .before .before .before .before .before .before .run2 .ensures _ _) ▹ optional (c .before .before .run3 .ensures _ _)))  -- returns-2
+    (λ c.  -- same-length-2
+    let at-run3 = c .before .before in
+    let at-run2 = at-run3 .before .before .before .before in
+    let at-body = at-run2 .before .before .before .before in
+    let at-with-clause = at-body .before .before .before .before in
+    let at-pass = at-with-clause .before .before in
+    let at-if1 = at-pass .before in
+    let at-read = at-if1 .before .before in
+    same {r = blank} (opened refl (at-read .read .ensures) (at-if1 .if1 .left) (at-pass .pass .ensures) (optional (at-with-clause .with-clause .ensures _) ▹ at-body .body .ensures _ ▹ optional (at-run2 .run2 .ensures _ _) ▹ optional (at-run3 .run3 .ensures _ _))))
+    (λ c r.  -- returns-2
+    let at-run3 = c .before .before in
+    let at-run2 = at-run3 .before .before .before .before in
+    let at-body = at-run2 .before .before .before .before in
+    let at-with-clause = at-body .before .before .before .before in
+    let at-pass = at-with-clause .before .before in
+    let at-if1 = at-pass .before in
+    let at-read = at-if1 .before .before in
+    opened refl (at-read .read .ensures) (at-if1 .if1 .left) (at-pass .pass .ensures) (optional (at-with-clause .with-clause .ensures _) ▹ at-body .body .ensures _ ▹ optional (at-run2 .run2 .ensures _ _) ▹ optional (at-run3 .run3 .ensures _ _)))
 
 abbrev sub-calls : ℕ → sub-lts.Claims
 sub-calls t = (word-reads.Asked, word-reads.Learnt, from-clause-below t, from-clause.Post, run-reads.Asked, run-reads.Learnt)
@@ -542,8 +761,18 @@ sub-met t =
     (λ c κs. (omega (arith, c .before .before .before .before .before .before .before .before .before .pre .0), tt))  -- from-clause-requires
     (λ c κs. search needs)  -- word-requires-2
     (λ c κs. search needs)  -- run-requires
-    (λ c. same ((c .before .before .before .before .before .before .before .before .before .before .before .before .before .before .word .ensures _ _ blank ▹ c .before .before .before .before .before .before .before .before .before .before .from-clause .ensures blank ▹ c .before .before .before .before .before .before .word2 .ensures _ _ blank) ▹ optional (c .before .before .run .ensures _ blank)))  -- same-length
-    (λ c r. (c .before .before .before .before .before .before .before .before .before .before .before .before .before .before .word .ensures _ _ r ▹ c .before .before .before .before .before .before .before .before .before .before .from-clause .ensures r ▹ c .before .before .before .before .before .before .word2 .ensures _ _ r) ▹ optional (c .before .before .run .ensures _ r))  -- returns
+    (λ c.  -- same-length
+    let at-run = c .before .before in
+    let at-word2 = at-run .before .before .before .before in
+    let at-from-clause = at-word2 .before .before .before .before in
+    let at-word = at-from-clause .before .before .before .before in
+    same ((at-word .word .ensures _ _ blank ▹ at-from-clause .from-clause .ensures blank ▹ at-word2 .word2 .ensures _ _ blank) ▹ optional (at-run .run .ensures _ blank)))
+    (λ c r.  -- returns
+    let at-run = c .before .before in
+    let at-word2 = at-run .before .before .before .before in
+    let at-from-clause = at-word2 .before .before .before .before in
+    let at-word = at-from-clause .before .before .before .before in
+    (at-word .word .ensures _ _ r ▹ at-from-clause .from-clause .ensures r ▹ at-word2 .word2 .ensures _ _ r) ▹ optional (at-run .run .ensures _ r))
 
 abbrev table-calls : ℕ → table-lts.Claims
 table-calls t = (read-reads.Asked, read-reads.Learnt, run-reads.Asked, run-reads.Learnt, pass-reads.Asked, pass-reads.Learnt, table-name-reads.Asked, table-name-reads.Learnt, table-call-reads.Asked, table-call-reads.Learnt, table-select-below t, table-select.Post, sub-below t, sub.Post)
@@ -555,25 +784,63 @@ table-met t =
     (λ c κs. search needs)  -- read-requires
     (λ c κs. search needs)  -- run-requires
     (λ c. search needs)  -- same-length
-    (λ c r. shallow (c .before .before .before .before .before .read .ensures) (c .before .before .run .ensures _ r) (c .before .before .before .before .if1 .taken) refl)  -- returns
+    (λ c r.  -- returns
+    let at-run = c .before .before in
+    let at-if1 = at-run .before .before in
+    let at-read = at-if1 .before in
+    shallow (at-read .read .ensures) (at-run .run .ensures _ r) (at-if1 .if1 .taken) refl)
     (λ c κs. search needs)  -- pass-requires
     (λ c κs. search needs)  -- table-name-requires
     (λ c. search needs)  -- same-length-2
-    (λ c r. node-on (c .before .before .before .before .before .before .before .before .read .ensures) Table (c .before .before .before .before .if2 .taken) refl (c .before .before .before .before .before .before .before .if1 .left) (c .before .before .before .before .before .before .pass .ensures) (c .before .before .table-name .ensures _ _))  -- returns-2
+    (λ c r.  -- returns-2
+    let at-table-name = c .before .before in
+    let at-if2 = at-table-name .before .before in
+    let at-pass = at-if2 .before .before in
+    let at-if1 = at-pass .before in
+    let at-read = at-if1 .before in
+    node-on (at-read .read .ensures) Table (at-if2 .if2 .taken) refl (at-if1 .if1 .left) (at-pass .pass .ensures) (at-table-name .table-name .ensures _ _))
     (λ c κs. search needs)  -- table-call-requires
     (λ c. search needs)  -- same-length-3
-    (λ c r. node-on (c .before .before .before .before .before .before .before .before .before .before .read .ensures) TableCall (c .before .before .before .before .if3 .taken) refl (c .before .before .before .before .before .before .before .before .before .if1 .left) (c .before .before .before .before .before .before .before .before .pass .ensures) (c .before .before .table-call .ensures _ _))  -- returns-3
+    (λ c r.  -- returns-3
+    let at-table-call = c .before .before in
+    let at-if3 = at-table-call .before .before in
+    let at-pass = at-if3 .before .before .before .before in
+    let at-if1 = at-pass .before in
+    let at-read = at-if1 .before in
+    node-on (at-read .read .ensures) TableCall (at-if3 .if3 .taken) refl (at-if1 .if1 .left) (at-pass .pass .ensures) (at-table-call .table-call .ensures _ _))
     (λ c. search needs)  -- sub-table-select
-    (λ c κs. (omega (arith, c .before .before .before .before .before .before .before .before .before .before .before .before .before .before .pre .0, c .before .before .before .before .before .before .before .before .if1 .left), tt))  -- table-select-requires
+    (λ c κs.  -- table-select-requires
+    let at-if1 = c .before .before .before .before .before .before .before .before in
+    let at-pre = at-if1 .before .before .before .before .before .before in
+    (omega (arith, at-pre .pre .0, at-if1 .if1 .left), tt))
     (λ c. search needs)  -- same-length-4
-    (λ c r. node-on (c .before .before .before .before .before .before .before .before .before .before .before .before .read .ensures) TableSelect (c .before .before .before .before .if4 .taken) refl (c .before .before .before .before .before .before .before .before .before .before .before .if1 .left) (c .before .before .before .before .before .before .before .before .before .before .pass .ensures) (c .before .before .table-select .ensures _))  -- returns-4
+    (λ c r.  -- returns-4
+    let at-table-select = c .before .before in
+    let at-if4 = at-table-select .before .before in
+    let at-pass = at-if4 .before .before .before .before .before .before in
+    let at-if1 = at-pass .before in
+    let at-read = at-if1 .before in
+    node-on (at-read .read .ensures) TableSelect (at-if4 .if4 .taken) refl (at-if1 .if1 .left) (at-pass .pass .ensures) (at-table-select .table-select .ensures _))
     (λ c. search needs)  -- sub-sub
     (λ c κs. search needs)  -- sub-requires
     (λ c. search needs)  -- same-length-5
-    (λ c r. node-on (c .before .before .before .before .before .before .before .before .before .before .before .before .before .before .read .ensures) Sub (c .before .before .before .before .if5 .taken) refl (c .before .before .before .before .before .before .before .before .before .before .before .before .before .if1 .left) (c .before .before .before .before .before .before .before .before .before .before .before .before .pass .ensures) (c .before .before .sub .ensures _))  -- returns-5
+    (λ c r.  -- returns-5
+    let at-sub = c .before .before in
+    let at-if5 = at-sub .before .before in
+    let at-pass = at-if5 .before .before .before .before .before .before .before .before in
+    let at-if1 = at-pass .before in
+    let at-read = at-if1 .before in
+    node-on (at-read .read .ensures) Sub (at-if5 .if5 .taken) refl (at-if1 .if1 .left) (at-pass .pass .ensures) (at-sub .sub .ensures _))
     (λ c κs. search needs)  -- run-requires-2
     (λ c. search needs)  -- same-length-6
-    (λ c r. other (c .before .before .before .before .before .before .before .before .before .before .before .before .before .before .read .ensures) (c .before .before .run2 .ensures _ r) (rw (ne-eqb _ Table (c .before .before .before .before .before .before .before .before .before .before .if2 .left), ne-eqb _ TableCall (c .before .before .before .before .before .before .before .before .if3 .left), ne-eqb _ TableSelect (c .before .before .before .before .before .before .if4 .left), ne-eqb _ Sub (c .before .before .before .before .if5 .left))))  -- returns-6
+    (λ c r.  -- returns-6
+    let at-run2 = c .before .before in
+    let at-if5 = at-run2 .before .before in
+    let at-if4 = at-if5 .before .before in
+    let at-if3 = at-if4 .before .before in
+    let at-if2 = at-if3 .before .before in
+    let at-read = at-if2 .before .before .before .before in
+    other (at-read .read .ensures) (at-run2 .run2 .ensures _ r) (rw (ne-eqb _ Table (at-if2 .if2 .left), ne-eqb _ TableCall (at-if3 .if3 .left), ne-eqb _ TableSelect (at-if4 .if4 .left), ne-eqb _ Sub (at-if5 .if5 .left))))
 
 abbrev table-select-calls : ℕ → table-select-lts.Claims
 table-select-calls t = (word-reads.Asked, word-reads.Learnt, select-below t, select.Post, run-reads.Asked, run-reads.Learnt)
@@ -586,8 +853,18 @@ table-select-met t =
     (λ c κs. (omega (arith, c .before .before .before .before .before .before .before .before .before .pre .0), tt))  -- select-requires
     (λ c κs. search needs)  -- word-requires-2
     (λ c κs. search needs)  -- run-requires
-    (λ c. same ((c .before .before .before .before .before .before .before .before .before .before .before .before .before .before .word .ensures _ _ blank ▹ c .before .before .before .before .before .before .before .before .before .before .select .ensures blank ▹ c .before .before .before .before .before .before .word2 .ensures _ _ blank) ▹ optional (c .before .before .run .ensures _ blank)))  -- same-length
-    (λ c r. (c .before .before .before .before .before .before .before .before .before .before .before .before .before .before .word .ensures _ _ r ▹ c .before .before .before .before .before .before .before .before .before .before .select .ensures r ▹ c .before .before .before .before .before .before .word2 .ensures _ _ r) ▹ optional (c .before .before .run .ensures _ r))  -- returns
+    (λ c.  -- same-length
+    let at-run = c .before .before in
+    let at-word2 = at-run .before .before .before .before in
+    let at-select = at-word2 .before .before .before .before in
+    let at-word = at-select .before .before .before .before in
+    same ((at-word .word .ensures _ _ blank ▹ at-select .select .ensures blank ▹ at-word2 .word2 .ensures _ _ blank) ▹ optional (at-run .run .ensures _ blank)))
+    (λ c r.  -- returns
+    let at-run = c .before .before in
+    let at-word2 = at-run .before .before .before .before in
+    let at-select = at-word2 .before .before .before .before in
+    let at-word = at-select .before .before .before .before in
+    (at-word .word .ensures _ _ r ▹ at-select .select .ensures r ▹ at-word2 .word2 .ensures _ _ r) ▹ optional (at-run .run .ensures _ r))
 
 abbrev with-clause-calls : ℕ → with-clause-lts.Claims
 with-clause-calls t = (read-reads.Asked, read-reads.Learnt, run-reads.Asked, run-reads.Learnt, pass-reads.Asked, pass-reads.Learnt, list-below t, list.Post)
@@ -599,13 +876,27 @@ with-clause-met t =
     (λ c κs. search needs)  -- read-requires
     (λ c κs. search needs)  -- run-requires
     (λ c. search needs)  -- same-length
-    (λ c r. shut refl (c .before .before .before .before .before .before .read .ensures) (c .before .before .before .before .if1 .taken) (c .before .before .run .ensures _ r))  -- returns
+    (λ c r.  -- returns
+    let at-run = c .before .before in
+    let at-if1 = at-run .before .before in
+    let at-read = at-if1 .before .before in
+    shut refl (at-read .read .ensures) (at-if1 .if1 .taken) (at-run .run .ensures _ r))
     (λ c κs. search needs)  -- pass-requires
     (λ c κs. search needs)  -- run-requires-2
     (λ c. left-some _ _ (c .before .before .before .before .before .before .if1 .left))  -- sub-list
-    (λ c κs. let l : 1 ≤ c .before .before .before .before .before .before .before .before .before .before .before .before .before .args .left = left-some _ _ (c .before .before .before .before .before .before .if1 .left) in (omega (arith, c .before .before .before .before .before .before .before .before .before .before .before .before .before .pre .0, l), tt))  -- list-requires
+    (λ c κs.  -- list-requires
+    let at-if1 = c .before .before .before .before .before .before in
+    let at-args = at-if1 .before .before .before .before .before .before .before in
+    let l : 1 ≤ at-args .args .left = left-some _ _ (at-if1 .if1 .left) in
+    (omega (arith, at-args .pre .0, l), tt))
     (λ c. search needs)  -- same-length-2
-    (λ c r. opened refl (c .before .before .before .before .before .before .before .before .before .before .before .read .ensures) (c .before .before .before .before .before .before .before .before .before .if1 .left) (c .before .before .before .before .before .before .before .before .pass .ensures) (c .before .before .before .before .before .before .run2 .ensures _ _ ▹ c .before .before .list .ensures _))  -- returns-2
+    (λ c r.  -- returns-2
+    let at-list = c .before .before in
+    let at-run2 = at-list .before .before .before .before in
+    let at-pass = at-run2 .before .before in
+    let at-if1 = at-pass .before in
+    let at-read = at-if1 .before .before in
+    opened refl (at-read .read .ensures) (at-if1 .if1 .left) (at-pass .pass .ensures) (at-run2 .run2 .ensures _ _ ▹ at-list .list .ensures _))
 
 pub +body+compound+cte+cte-body+element+elements+from-clause+from-given+joined+list+one+one-select+select+sub+table+table-select+with-clause-spec : {M : Type 1} → statement M
 +body+compound+cte+cte-body+element+elements+from-clause+from-given+joined+list+one+one-select+select+sub+table+table-select+with-clause-spec = close μ-body μ-compound μ-cte μ-cte-body μ-element μ-elements μ-from-clause μ-from-given μ-joined μ-list μ-one μ-one-select μ-select μ-sub μ-table μ-table-select μ-with-clause body-met compound-met cte-met cte-body-met element-met elements-met from-clause-met from-given-met joined-met list-met one-met one-select-met select-met sub-met table-met table-select-met with-clause-met

@@ -10,7 +10,9 @@ returns c d r =
     let at-word-list = c .before .before in
     let at-run = at-word-list .before .before .before .before in
     let at-clause = at-run .before .before .before .before in
-    at-clause .clause .ensures d r ▹ optional (at-run .run .ensures d r) ▹ at-word-list .word-list .ensures d r
+    at-clause .clause .ensures d r
+    ▹ optional (at-run .run .ensures d r)
+    ▹ at-word-list .word-list .ensures d r
 
 pub filters-spec : {M : Type 1} → statement M
 filters-spec =

@@ -12,7 +12,9 @@ returns c d r =
     let at-run2 = c .before .before in
     let at-in-parens = at-run2 .before .before .before .before in
     let at-run = at-in-parens .before .before .before .before in
-    at-run .run .ensures d r ▹ at-in-parens .in-parens .ensures d r ▹ optional (at-run2 .run2 .ensures d r)
+    at-run .run .ensures d r
+    ▹ at-in-parens .in-parens .ensures d r
+    ▹ optional (at-run2 .run2 .ensures d r)
 
 pub table-call-spec : {M : Type 1} → statement M
 table-call-spec =

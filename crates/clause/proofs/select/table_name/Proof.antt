@@ -12,7 +12,9 @@ returns c d r =
     let at-run3 = c .before .before in
     let at-run2 = at-run3 .before .before .before .before in
     let at-run = at-run2 .before .before .before .before in
-    at-run .run .ensures d r ▹ optional (at-run2 .run2 .ensures d r) ▹ optional (at-run3 .run3 .ensures d r)
+    at-run .run .ensures d r
+    ▹ optional (at-run2 .run2 .ensures d r)
+    ▹ optional (at-run3 .run3 .ensures d r)
 
 pub table-name-spec : {M : Type 1} → statement M
 table-name-spec =

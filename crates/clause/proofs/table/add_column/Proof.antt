@@ -11,7 +11,9 @@ returns c r =
     let at-column-definition = c .before .before in
     let at-word2 = at-column-definition .before .before .before .before in
     let at-word = at-word2 .before .before .before .before in
-    at-word .word .ensures _ _ r ▹ at-word2 .word2 .ensures _ _ r ▹ at-column-definition .column-definition .ensures r
+    at-word .word .ensures _ _ r
+    ▹ at-word2 .word2 .ensures _ _ r
+    ▹ at-column-definition .column-definition .ensures r
 
 pub add-column-spec : {M : Type 1} → statement M
 add-column-spec =

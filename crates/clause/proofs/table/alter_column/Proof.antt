@@ -14,7 +14,11 @@ returns c r =
     let at-run = at-word3 .before .before .before .before in
     let at-word2 = at-run .before .before .before .before in
     let at-word = at-word2 .before .before .before .before in
-    at-word .word .ensures _ _ r ▹ at-word2 .word2 .ensures _ _ r ▹ at-run .run .ensures _ r ▹ at-word3 .word3 .ensures _ _ r ▹ at-column-definition .column-definition .ensures r
+    at-word .word .ensures _ _ r
+    ▹ at-word2 .word2 .ensures _ _ r
+    ▹ at-run .run .ensures _ r
+    ▹ at-word3 .word3 .ensures _ _ r
+    ▹ at-column-definition .column-definition .ensures r
 
 pub alter-column-spec : {M : Type 1} → statement M
 alter-column-spec =

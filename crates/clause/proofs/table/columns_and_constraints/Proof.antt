@@ -17,7 +17,11 @@ returns c r =
     let at-constraints = at-word2 .before .before .before .before in
     let at-list = at-constraints .before .before .before .before in
     let at-word = at-list .before .before .before .before in
-    (at-word .word .ensures _ _ r ▹ (at-list .list .ensures r ▹ at-constraints .constraints .ensures r) ▹ at-word2 .word2 .ensures _ _ r) ▹ at-rowid .rowid .ensures _ r ▹ optional (at-name .name .ensures _ r)
+    (at-word .word .ensures _ _ r
+    ▹ (at-list .list .ensures r ▹ at-constraints .constraints .ensures r)
+    ▹ at-word2 .word2 .ensures _ _ r)
+    ▹ at-rowid .rowid .ensures _ r
+    ▹ optional (at-name .name .ensures _ r)
 
 pub columns-and-constraints-spec : {M : Type 1} → statement M
 columns-and-constraints-spec =

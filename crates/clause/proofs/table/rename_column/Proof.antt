@@ -14,7 +14,11 @@ returns c d r =
     let at-run = at-word3 .before .before .before .before in
     let at-word2 = at-run .before .before .before .before in
     let at-word = at-word2 .before .before .before .before in
-    at-word .word .ensures _ d r ▹ at-word2 .word2 .ensures _ d r ▹ at-run .run .ensures d r ▹ at-word3 .word3 .ensures _ d r ▹ at-run2 .run2 .ensures d r
+    at-word .word .ensures _ d r
+    ▹ at-word2 .word2 .ensures _ d r
+    ▹ at-run .run .ensures d r
+    ▹ at-word3 .word3 .ensures _ d r
+    ▹ at-run2 .run2 .ensures d r
 
 pub rename-column-spec : {M : Type 1} → statement M
 rename-column-spec =

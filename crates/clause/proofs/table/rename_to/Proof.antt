@@ -11,7 +11,9 @@ returns c d r =
     let at-run = c .before .before in
     let at-word2 = at-run .before .before .before .before in
     let at-word = at-word2 .before .before .before .before in
-    at-word .word .ensures _ d r ▹ at-word2 .word2 .ensures _ d r ▹ at-run .run .ensures d r
+    at-word .word .ensures _ d r
+    ▹ at-word2 .word2 .ensures _ d r
+    ▹ at-run .run .ensures d r
 
 pub rename-to-spec : {M : Type 1} → statement M
 rename-to-spec =

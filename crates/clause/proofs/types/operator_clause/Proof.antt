@@ -23,7 +23,9 @@ returns-2 c r =
     let at-pass = at-said .before .before .before in
     let at-if1 = at-pass .before in
     let at-read = at-if1 .before .before in
-    opened refl (at-read .read .ensures) (at-if1 .if1 .left) (at-pass .pass .ensures) (a-said _ refl (at-said .said .ensures) ▹ at-quoted .quoted .ensures _ _ ▹ optional (at-name .name .ensures _ _))
+    opened refl (at-read .read .ensures) (at-if1 .if1 .left) (at-pass .pass .ensures) (a-said _ refl (at-said .said .ensures)
+    ▹ at-quoted .quoted .ensures _ _
+    ▹ optional (at-name .name .ensures _ _))
 
 pub operator-clause-spec : {M : Type 1} → statement M
 operator-clause-spec =

@@ -18,7 +18,9 @@ returns-2 c d r =
     let at-word = at-run .before .before .before .before in
     let at-if1 = at-word .before .before in
     let at-read = at-if1 .before .before in
-    given-some (at-read .read .ensures) (at-if1 .if1 .left) (at-word .word .ensures _ d r ▹ optional (at-run .run .ensures d r) ▹ at-word2 .word2 .ensures _ d r)
+    given-some (at-read .read .ensures) (at-if1 .if1 .left) (at-word .word .ensures _ d r
+    ▹ optional (at-run .run .ensures d r)
+    ▹ at-word2 .word2 .ensures _ d r)
 
 pub size-spec : {M : Type 1} → statement M
 size-spec =

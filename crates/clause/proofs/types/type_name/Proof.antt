@@ -23,7 +23,9 @@ returns-2 c r =
     let at-pass = at-name .before .before in
     let at-if1 = at-pass .before in
     let at-read = at-if1 .before .before in
-    opened refl (at-read .read .ensures) (at-if1 .if1 .left) (at-pass .pass .ensures) (at-name .name .ensures _ _ ▹ at-size .size .ensures _ _ ▹ at-dimensions .dimensions .ensures _ _ _)
+    opened refl (at-read .read .ensures) (at-if1 .if1 .left) (at-pass .pass .ensures) (at-name .name .ensures _ _
+    ▹ at-size .size .ensures _ _
+    ▹ at-dimensions .dimensions .ensures _ _ _)
 
 pub type-name-spec : {M : Type 1} → statement M
 type-name-spec =

@@ -14,7 +14,11 @@ returns c d r =
     let at-word3 = at-comma .before .before .before .before in
     let at-word2 = at-word3 .before .before .before .before in
     let at-word = at-word2 .before .before .before .before in
-    at-word .word .ensures _ d r ▹ at-word2 .word2 .ensures _ d r ▹ at-word3 .word3 .ensures _ d r ▹ at-comma .comma .ensures d r ▹ at-clause .clause .ensures d r
+    at-word .word .ensures _ d r
+    ▹ at-word2 .word2 .ensures _ d r
+    ▹ at-word3 .word3 .ensures _ d r
+    ▹ at-comma .comma .ensures d r
+    ▹ at-clause .clause .ensures d r
 
 pub upsert-set-spec : {M : Type 1} → statement M
 upsert-set-spec =

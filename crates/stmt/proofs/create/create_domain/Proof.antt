@@ -1,11 +1,10 @@
 -- `create::create_domain` writes its entry, a step a call.
 use borrow.Author.Needs.{needs}
-use Rattle.pen.specs.Laws.{_▹_, a-said, same}
+use Rattle.pen.specs.Laws.{_▹_, a-said}
 use Rattle.clause.specs.Held.{held}
 use Rattle.grammar.specs.Grammar.{shape}
 use mathlib.Core.Path.{refl}
-use Rattle.pen.specs.Flags.{bits, first-bit, second-bit}
-use mathlib.Core.Bool.{false}
+use Rattle.stmt.specs.Laws.{same-two}
 use Rattle.stmt.proofs.create.create_domain.Statement.{statement}
 use Rattle.stmt.proofs.create.create_domain.Tie as tie
 
@@ -21,7 +20,15 @@ returns c r h g =
     let at-if-not-exists = at-name .before .before .before .before in
     let at-said = at-if-not-exists .before .before .before .before in
     let at-word = at-said .before .before .before .before .before in
-    at-word .word .ensures _ _ r ▹ a-said _ refl (at-said .said .ensures) ▹ at-if-not-exists .if-not-exists .ensures _ _ r _ h ▹ at-name .name .ensures _ r ▹ at-word2 .word2 .ensures _ _ r ▹ at-name2 .name2 .ensures _ r ▹ at-clause .clause .ensures _ r ▹ at-not-null .not-null .ensures _ _ r _ g ▹ at-list .list .ensures r
+    at-word .word .ensures _ _ r
+    ▹ a-said _ refl (at-said .said .ensures)
+    ▹ at-if-not-exists .if-not-exists .ensures _ _ r _ h
+    ▹ at-name .name .ensures _ r
+    ▹ at-word2 .word2 .ensures _ _ r
+    ▹ at-name2 .name2 .ensures _ r
+    ▹ at-clause .clause .ensures _ r
+    ▹ at-not-null .not-null .ensures _ _ r _ g
+    ▹ at-list .list .ensures r
 
 pub create-domain-spec : {M : Type 1} → statement M
 create-domain-spec =
@@ -29,6 +36,4 @@ create-domain-spec =
     (tie.spec
     (λ c κs. search needs) (λ c. search needs) (λ c κs. search needs) (λ c κs. search needs)
     (λ c κs. search needs) (λ c κs. search needs) (λ c κs. search needs) (λ c κs. search needs)
-    (λ c κs. search needs) (λ c κs. search needs)
-    (λ c. same (returns c (bits (c .before .before .before .before .before .before .before .before .before .before .before .before .before .before .before .before .before .before .before .before .before .before .before .before .before .before .before .before .before .before .before .before .before .before .before .before .before .before .before .before .before .args .not-there) (c .before .before .before .before .before .before .before .before .before .before .before .before .before .before .before .before .before .before .before .before .before .before .before .before .before .before .before .before .before .before .before .before .before .before .before .before .before .before .before .before .before .args .no-null) false) (first-bit (c .before .before .before .before .before .before .before .before .before .before .before .before .before .before .before .before .before .before .before .before .before .before .before .before .before .before .before .before .before .before .before .before .before .before .before .before .before .before .before .before .before .args .not-there) (c .before .before .before .before .before .before .before .before .before .before .before .before .before .before .before .before .before .before .before .before .before .before .before .before .before .before .before .before .before .before .before .before .before .before .before .before .before .before .before .before .before .args .no-null) false) (second-bit (c .before .before .before .before .before .before .before .before .before .before .before .before .before .before .before .before .before .before .before .before .before .before .before .before .before .before .before .before .before .before .before .before .before .before .before .before .before .before .before .before .before .args .not-there) (c .before .before .before .before .before .before .before .before .before .before .before .before .before .before .before .before .before .before .before .before .before .before .before .before .before .before .before .before .before .before .before .before .before .before .before .before .before .before .before .before .before .args .no-null) false)))
-    returns)
+    (λ c κs. search needs) (λ c κs. search needs) (λ c. same-two (returns c)) returns)

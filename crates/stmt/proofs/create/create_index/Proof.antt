@@ -1,9 +1,8 @@
 -- `create::create_index` writes its entry, a step a call.
 use borrow.Author.Needs.{needs}
-use Rattle.pen.specs.Laws.{_▹_, same}
+use Rattle.pen.specs.Laws.{_▹_}
 use Rattle.grammar.specs.Grammar.{shape}
-use Rattle.pen.specs.Flags.{bits, first-bit, second-bit}
-use mathlib.Core.Bool.{false}
+use Rattle.stmt.specs.Laws.{same-two}
 use Rattle.stmt.proofs.create.create_index.Statement.{statement}
 use Rattle.stmt.proofs.create.create_index.Tie as tie
 
@@ -21,7 +20,17 @@ returns c r h g =
     let at-word2 = at-if-not-exists .before .before .before .before in
     let at-word-if = at-word2 .before .before .before .before in
     let at-word = at-word-if .before .before .before .before in
-    at-word .word .ensures _ _ r ▹ at-word-if .word-if .ensures _ _ r _ h ▹ at-word2 .word2 .ensures _ _ r ▹ at-if-not-exists .if-not-exists .ensures _ _ r _ g ▹ at-run .run .ensures _ r ▹ at-word3 .word3 .ensures _ _ r ▹ at-run2 .run2 .ensures _ r ▹ at-clause .clause .ensures _ r ▹ at-in-parens .in-parens .ensures _ r ▹ at-index-options .index-options .ensures r ▹ at-clause2 .clause2 .ensures _ r
+    at-word .word .ensures _ _ r
+    ▹ at-word-if .word-if .ensures _ _ r _ h
+    ▹ at-word2 .word2 .ensures _ _ r
+    ▹ at-if-not-exists .if-not-exists .ensures _ _ r _ g
+    ▹ at-run .run .ensures _ r
+    ▹ at-word3 .word3 .ensures _ _ r
+    ▹ at-run2 .run2 .ensures _ r
+    ▹ at-clause .clause .ensures _ r
+    ▹ at-in-parens .in-parens .ensures _ r
+    ▹ at-index-options .index-options .ensures r
+    ▹ at-clause2 .clause2 .ensures _ r
 
 pub create-index-spec : {M : Type 1} → statement M
 create-index-spec =
@@ -29,6 +38,5 @@ create-index-spec =
     (tie.spec
     (λ c κs. search needs) (λ c κs. search needs) (λ c κs. search needs) (λ c κs. search needs)
     (λ c κs. search needs) (λ c κs. search needs) (λ c κs. search needs) (λ c κs. search needs)
-    (λ c κs. search needs) (λ c κs. search needs) (λ c κs. search needs)
-    (λ c. same (returns c (bits (c .before .before .before .before .before .before .before .before .before .before .before .before .before .before .before .before .before .before .before .before .before .before .before .before .before .before .before .before .before .before .before .before .before .before .before .before .before .before .before .before .before .before .before .before .before .before .before .before .args .unique) (c .before .before .before .before .before .before .before .before .before .before .before .before .before .before .before .before .before .before .before .before .before .before .before .before .before .before .before .before .before .before .before .before .before .before .before .before .before .before .before .before .before .before .before .before .before .before .before .before .args .not-there) false) (first-bit (c .before .before .before .before .before .before .before .before .before .before .before .before .before .before .before .before .before .before .before .before .before .before .before .before .before .before .before .before .before .before .before .before .before .before .before .before .before .before .before .before .before .before .before .before .before .before .before .before .args .unique) (c .before .before .before .before .before .before .before .before .before .before .before .before .before .before .before .before .before .before .before .before .before .before .before .before .before .before .before .before .before .before .before .before .before .before .before .before .before .before .before .before .before .before .before .before .before .before .before .before .args .not-there) false) (second-bit (c .before .before .before .before .before .before .before .before .before .before .before .before .before .before .before .before .before .before .before .before .before .before .before .before .before .before .before .before .before .before .before .before .before .before .before .before .before .before .before .before .before .before .before .before .before .before .before .before .args .unique) (c .before .before .before .before .before .before .before .before .before .before .before .before .before .before .before .before .before .before .before .before .before .before .before .before .before .before .before .before .before .before .before .before .before .before .before .before .before .before .before .before .before .before .before .before .before .before .before .before .args .not-there) false)))
+    (λ c κs. search needs) (λ c κs. search needs) (λ c κs. search needs) (λ c. same-two (returns c))
     returns)

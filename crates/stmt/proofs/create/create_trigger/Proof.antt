@@ -1,9 +1,9 @@
 -- `create::create_trigger` writes its entry, a step a call.
 use borrow.Author.Needs.{needs}
-use Rattle.pen.specs.Laws.{_▹_, same}
+use Rattle.pen.specs.Laws.{_▹_}
 use Rattle.pen.specs.Places.{optional}
 use Rattle.grammar.specs.Grammar.{shape}
-use Rattle.pen.specs.Flags.{bits, first-bit, second-bit, third-bit}
+use Rattle.stmt.specs.Laws.{same-three}
 use Rattle.stmt.proofs.create.create_trigger.Statement.{statement}
 use Rattle.stmt.proofs.create.create_trigger.Tie as tie
 
@@ -21,7 +21,17 @@ returns c d r h g k =
     let at-word2 = at-if-not-exists .before .before .before .before in
     let at-word-if = at-word2 .before .before .before .before in
     let at-word = at-word-if .before .before .before .before in
-    at-word .word .ensures _ _ r ▹ at-word-if .word-if .ensures _ _ r _ h ▹ at-word2 .word2 .ensures _ _ r ▹ at-if-not-exists .if-not-exists .ensures _ _ r _ g ▹ at-run .run .ensures _ r ▹ optional (at-run2 .run2 .ensures _ r) ▹ at-run3 .run3 .ensures _ r ▹ at-word3 .word3 .ensures _ _ r ▹ at-run4 .run4 .ensures _ r ▹ at-for-each-row .for-each-row .ensures _ _ r _ k ▹ at-trigger-body .trigger-body .ensures _ r
+    at-word .word .ensures _ _ r
+    ▹ at-word-if .word-if .ensures _ _ r _ h
+    ▹ at-word2 .word2 .ensures _ _ r
+    ▹ at-if-not-exists .if-not-exists .ensures _ _ r _ g
+    ▹ at-run .run .ensures _ r
+    ▹ optional (at-run2 .run2 .ensures _ r)
+    ▹ at-run3 .run3 .ensures _ r
+    ▹ at-word3 .word3 .ensures _ _ r
+    ▹ at-run4 .run4 .ensures _ r
+    ▹ at-for-each-row .for-each-row .ensures _ _ r _ k
+    ▹ at-trigger-body .trigger-body .ensures _ r
 
 pub create-trigger-spec : {M : Type 1} → statement M
 create-trigger-spec =
@@ -29,6 +39,5 @@ create-trigger-spec =
     (tie.spec
     (λ c κs. search needs) (λ c κs. search needs) (λ c κs. search needs) (λ c κs. search needs)
     (λ c κs. search needs) (λ c κs. search needs) (λ c κs. search needs) (λ c κs. search needs)
-    (λ c κs. search needs) (λ c κs. search needs) (λ c κs. search needs)
-    (λ c. same (returns c 0 (bits (c .before .before .before .before .before .before .before .before .before .before .before .before .before .before .before .before .before .before .before .before .before .before .before .before .before .before .before .before .before .before .before .before .before .before .before .before .before .before .before .before .before .before .before .before .before .before .before .before .args .temporary) (c .before .before .before .before .before .before .before .before .before .before .before .before .before .before .before .before .before .before .before .before .before .before .before .before .before .before .before .before .before .before .before .before .before .before .before .before .before .before .before .before .before .before .before .before .before .before .before .before .args .not-there) (c .before .before .before .before .before .before .before .before .before .before .before .before .before .before .before .before .before .before .before .before .before .before .before .before .before .before .before .before .before .before .before .before .before .before .before .before .before .before .before .before .before .before .before .before .before .before .before .before .args .each-row)) (first-bit (c .before .before .before .before .before .before .before .before .before .before .before .before .before .before .before .before .before .before .before .before .before .before .before .before .before .before .before .before .before .before .before .before .before .before .before .before .before .before .before .before .before .before .before .before .before .before .before .before .args .temporary) (c .before .before .before .before .before .before .before .before .before .before .before .before .before .before .before .before .before .before .before .before .before .before .before .before .before .before .before .before .before .before .before .before .before .before .before .before .before .before .before .before .before .before .before .before .before .before .before .before .args .not-there) (c .before .before .before .before .before .before .before .before .before .before .before .before .before .before .before .before .before .before .before .before .before .before .before .before .before .before .before .before .before .before .before .before .before .before .before .before .before .before .before .before .before .before .before .before .before .before .before .before .args .each-row)) (second-bit (c .before .before .before .before .before .before .before .before .before .before .before .before .before .before .before .before .before .before .before .before .before .before .before .before .before .before .before .before .before .before .before .before .before .before .before .before .before .before .before .before .before .before .before .before .before .before .before .before .args .temporary) (c .before .before .before .before .before .before .before .before .before .before .before .before .before .before .before .before .before .before .before .before .before .before .before .before .before .before .before .before .before .before .before .before .before .before .before .before .before .before .before .before .before .before .before .before .before .before .before .before .args .not-there) (c .before .before .before .before .before .before .before .before .before .before .before .before .before .before .before .before .before .before .before .before .before .before .before .before .before .before .before .before .before .before .before .before .before .before .before .before .before .before .before .before .before .before .before .before .before .before .before .before .args .each-row)) (third-bit (c .before .before .before .before .before .before .before .before .before .before .before .before .before .before .before .before .before .before .before .before .before .before .before .before .before .before .before .before .before .before .before .before .before .before .before .before .before .before .before .before .before .before .before .before .before .before .before .before .args .temporary) (c .before .before .before .before .before .before .before .before .before .before .before .before .before .before .before .before .before .before .before .before .before .before .before .before .before .before .before .before .before .before .before .before .before .before .before .before .before .before .before .before .before .before .before .before .before .before .before .before .args .not-there) (c .before .before .before .before .before .before .before .before .before .before .before .before .before .before .before .before .before .before .before .before .before .before .before .before .before .before .before .before .before .before .before .before .before .before .before .before .before .before .before .before .before .before .before .before .before .before .before .before .args .each-row))))
+    (λ c κs. search needs) (λ c κs. search needs) (λ c κs. search needs) (λ c. same-three (returns c 0))
     returns)

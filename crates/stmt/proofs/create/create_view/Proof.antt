@@ -1,9 +1,8 @@
 -- `create::create_view` writes its entry, a step a call.
 use borrow.Author.Needs.{needs}
-use Rattle.pen.specs.Laws.{_▹_, same}
+use Rattle.pen.specs.Laws.{_▹_}
 use Rattle.grammar.specs.Grammar.{shape}
-use Rattle.pen.specs.Flags.{bits, first-bit, second-bit}
-use mathlib.Core.Bool.{false}
+use Rattle.stmt.specs.Laws.{same-two}
 use Rattle.stmt.proofs.create.create_view.Statement.{statement}
 use Rattle.stmt.proofs.create.create_view.Tie as tie
 
@@ -15,13 +14,15 @@ returns c r h g =
     let at-word2 = at-if-not-exists .before .before .before .before in
     let at-word-if = at-word2 .before .before .before .before in
     let at-word = at-word-if .before .before .before .before in
-    at-word .word .ensures _ _ r ▹ at-word-if .word-if .ensures _ _ r _ h ▹ at-word2 .word2 .ensures _ _ r ▹ at-if-not-exists .if-not-exists .ensures _ _ r _ g ▹ at-view-body .view-body .ensures r
+    at-word .word .ensures _ _ r
+    ▹ at-word-if .word-if .ensures _ _ r _ h
+    ▹ at-word2 .word2 .ensures _ _ r
+    ▹ at-if-not-exists .if-not-exists .ensures _ _ r _ g
+    ▹ at-view-body .view-body .ensures r
 
 pub create-view-spec : {M : Type 1} → statement M
 create-view-spec =
     tie.close
     (tie.spec
     (λ c κs. search needs) (λ c κs. search needs) (λ c κs. search needs) (λ c κs. search needs)
-    (λ c κs. search needs)
-    (λ c. same (returns c (bits (c .before .before .before .before .before .before .before .before .before .before .before .before .before .before .before .before .before .before .before .before .before .before .before .before .args .temporary) (c .before .before .before .before .before .before .before .before .before .before .before .before .before .before .before .before .before .before .before .before .before .before .before .before .args .not-there) false) (first-bit (c .before .before .before .before .before .before .before .before .before .before .before .before .before .before .before .before .before .before .before .before .before .before .before .before .args .temporary) (c .before .before .before .before .before .before .before .before .before .before .before .before .before .before .before .before .before .before .before .before .before .before .before .before .args .not-there) false) (second-bit (c .before .before .before .before .before .before .before .before .before .before .before .before .before .before .before .before .before .before .before .before .before .before .before .before .args .temporary) (c .before .before .before .before .before .before .before .before .before .before .before .before .before .before .before .before .before .before .before .before .before .before .before .before .args .not-there) false)))
-    returns)
+    (λ c κs. search needs) (λ c. same-two (returns c)) returns)

@@ -1,9 +1,8 @@
 -- `create::create_virtual_table` writes its entry, a step a call.
 use borrow.Author.Needs.{needs}
-use Rattle.pen.specs.Laws.{_▹_, same}
+use Rattle.pen.specs.Laws.{_▹_}
 use Rattle.grammar.specs.Grammar.{shape}
-use Rattle.pen.specs.Flags.{bits, first-bit}
-use mathlib.Core.Bool.{false}
+use Rattle.stmt.specs.Laws.{same-one}
 use Rattle.stmt.proofs.create.create_virtual_table.Statement.{statement}
 use Rattle.stmt.proofs.create.create_virtual_table.Tie as tie
 
@@ -18,7 +17,14 @@ returns c d r h =
     let at-word3 = at-if-not-exists .before .before .before .before in
     let at-word2 = at-word3 .before .before .before .before in
     let at-word = at-word2 .before .before .before .before in
-    at-word .word .ensures _ _ r ▹ at-word2 .word2 .ensures _ _ r ▹ at-word3 .word3 .ensures _ _ r ▹ at-if-not-exists .if-not-exists .ensures _ _ r _ h ▹ at-run .run .ensures _ r ▹ at-word4 .word4 .ensures _ _ r ▹ at-run2 .run2 .ensures _ r ▹ at-in-parens .in-parens .ensures _ r
+    at-word .word .ensures _ _ r
+    ▹ at-word2 .word2 .ensures _ _ r
+    ▹ at-word3 .word3 .ensures _ _ r
+    ▹ at-if-not-exists .if-not-exists .ensures _ _ r _ h
+    ▹ at-run .run .ensures _ r
+    ▹ at-word4 .word4 .ensures _ _ r
+    ▹ at-run2 .run2 .ensures _ r
+    ▹ at-in-parens .in-parens .ensures _ r
 
 pub create-virtual-table-spec : {M : Type 1} → statement M
 create-virtual-table-spec =
@@ -26,5 +32,4 @@ create-virtual-table-spec =
     (tie.spec
     (λ c κs. search needs) (λ c κs. search needs) (λ c κs. search needs) (λ c κs. search needs)
     (λ c κs. search needs) (λ c κs. search needs) (λ c κs. search needs) (λ c κs. search needs)
-    (λ c. same (returns c 0 (bits (c .before .before .before .before .before .before .before .before .before .before .before .before .before .before .before .before .before .before .before .before .before .before .before .before .before .before .before .before .before .before .before .before .before .before .before .before .args .not-there) false false) (first-bit (c .before .before .before .before .before .before .before .before .before .before .before .before .before .before .before .before .before .before .before .before .before .before .before .before .before .before .before .before .before .before .before .before .before .before .before .before .args .not-there) false false)))
-    returns)
+    (λ c. same-one (returns c 0)) returns)

@@ -11,7 +11,9 @@ returns c e d r bit h =
     let at-word2 = at-word3 .before .before .before .before in
     let at-word = at-word2 .before .before .before .before in
     let at-if1 = at-word .before .before in
-    under h (at-if1 .if1 .taken) (at-word .word .ensures e d r ▹ at-word2 .word2 .ensures e d r ▹ at-word3 .word3 .ensures e d r)
+    under h (at-if1 .if1 .taken) (at-word .word .ensures e d r
+    ▹ at-word2 .word2 .ensures e d r
+    ▹ at-word3 .word3 .ensures e d r)
 
 returns-2 : tie.Need-returns-2
 returns-2 c e d r bit h = not-under h (c .if1 .left)

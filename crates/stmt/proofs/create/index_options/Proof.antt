@@ -21,7 +21,10 @@ returns-2 c r =
     let at-word = at-word2 .before .before .before .before in
     let at-if1 = at-word .before .before in
     let at-read = at-if1 .before .before in
-    filled-some (at-read .read .ensures) (at-if1 .if1 .left) (at-word .word .ensures _ _ r ▹ at-word2 .word2 .ensures _ _ r ▹ at-list .list .ensures r ▹ at-word3 .word3 .ensures _ _ r)
+    filled-some (at-read .read .ensures) (at-if1 .if1 .left) (at-word .word .ensures _ _ r
+    ▹ at-word2 .word2 .ensures _ _ r
+    ▹ at-list .list .ensures r
+    ▹ at-word3 .word3 .ensures _ _ r)
 
 pub index-options-spec : {M : Type 1} → statement M
 index-options-spec =

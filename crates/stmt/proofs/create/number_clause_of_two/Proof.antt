@@ -18,7 +18,9 @@ returns-2 c v h z g d r =
     let at-said = at-said2 .before .before .before .before in
     let at-if1 = at-said .before .before in
     let at-read = at-if1 .before .before in
-    given-some (at-read .read .ensures) (at-if1 .if1 .left) (a-said v h (at-said .said .ensures) ▹ a-said z g (at-said2 .said2 .ensures) ▹ at-number .number .ensures _ d r)
+    given-some (at-read .read .ensures) (at-if1 .if1 .left) (a-said v h (at-said .said .ensures)
+    ▹ a-said z g (at-said2 .said2 .ensures)
+    ▹ at-number .number .ensures _ d r)
 
 pub number-clause-of-two-spec : {M : Type 1} → statement M
 number-clause-of-two-spec =

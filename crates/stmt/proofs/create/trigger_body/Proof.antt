@@ -10,7 +10,10 @@ returns c d r =
     let at-lines = at-word .before .before .before .before in
     let at-line = at-lines .before .before .before .before in
     let at-clause = at-line .before .before .before .before in
-    at-clause .clause .ensures d r ▹ at-line .line .ensures _ d r ▹ at-lines .lines .ensures d r ▹ at-word .word .ensures _ d r
+    at-clause .clause .ensures d r
+    ▹ at-line .line .ensures _ d r
+    ▹ at-lines .lines .ensures d r
+    ▹ at-word .word .ensures _ d r
 
 pub trigger-body-spec : {M : Type 1} → statement M
 trigger-body-spec =

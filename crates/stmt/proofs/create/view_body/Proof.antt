@@ -10,7 +10,10 @@ returns c r =
     let at-word = at-select .before .before .before .before in
     let at-columns = at-word .before .before .before .before in
     let at-run = at-columns .before .before .before .before in
-    at-run .run .ensures _ r ▹ at-columns .columns .ensures _ r ▹ at-word .word .ensures _ _ r ▹ at-select .select .ensures r
+    at-run .run .ensures _ r
+    ▹ at-columns .columns .ensures _ r
+    ▹ at-word .word .ensures _ _ r
+    ▹ at-select .select .ensures r
 
 pub view-body-spec : {M : Type 1} → statement M
 view-body-spec =

@@ -13,7 +13,10 @@ returns c d r h =
     let at-if-exists = at-name .before .before .before .before in
     let at-said = at-if-exists .before .before .before .before in
     let at-word = at-said .before .before .before .before .before in
-    at-word .word .ensures _ _ r ▹ a-said _ refl (at-said .said .ensures) ▹ at-if-exists .if-exists .ensures _ _ r _ h ▹ at-name .name .ensures _ r
+    at-word .word .ensures _ _ r
+    ▹ a-said _ refl (at-said .said .ensures)
+    ▹ at-if-exists .if-exists .ensures _ _ r _ h
+    ▹ at-name .name .ensures _ r
 
 pub drop-domain-spec : {M : Type 1} → statement M
 drop-domain-spec =

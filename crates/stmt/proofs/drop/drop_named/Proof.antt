@@ -10,7 +10,10 @@ returns c d r h =
     let at-if-exists = at-run .before .before .before .before in
     let at-word2 = at-if-exists .before .before .before .before in
     let at-word = at-word2 .before .before .before .before in
-    at-word .word .ensures _ _ r ▹ at-word2 .word2 .ensures _ _ r ▹ at-if-exists .if-exists .ensures _ _ r _ h ▹ at-run .run .ensures _ r
+    at-word .word .ensures _ _ r
+    ▹ at-word2 .word2 .ensures _ _ r
+    ▹ at-if-exists .if-exists .ensures _ _ r _ h
+    ▹ at-run .run .ensures _ r
 
 pub drop-named-spec : {M : Type 1} → statement M
 drop-named-spec =

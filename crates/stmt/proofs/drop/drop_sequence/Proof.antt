@@ -13,7 +13,10 @@ returns c d r h =
     let at-if-exists = at-run .before .before .before .before in
     let at-said = at-if-exists .before .before .before .before in
     let at-word = at-said .before .before .before .before .before in
-    at-word .word .ensures _ _ r ▹ a-said _ refl (at-said .said .ensures) ▹ at-if-exists .if-exists .ensures _ _ r _ h ▹ at-run .run .ensures _ r
+    at-word .word .ensures _ _ r
+    ▹ a-said _ refl (at-said .said .ensures)
+    ▹ at-if-exists .if-exists .ensures _ _ r _ h
+    ▹ at-run .run .ensures _ r
 
 pub drop-sequence-spec : {M : Type 1} → statement M
 drop-sequence-spec =

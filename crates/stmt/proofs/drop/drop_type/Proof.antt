@@ -12,7 +12,10 @@ returns c d r h =
     let at-if-exists = at-name .before .before .before .before in
     let at-word2 = at-if-exists .before .before .before .before in
     let at-word = at-word2 .before .before .before .before in
-    at-word .word .ensures _ _ r ▹ at-word2 .word2 .ensures _ _ r ▹ at-if-exists .if-exists .ensures _ _ r _ h ▹ at-name .name .ensures _ r
+    at-word .word .ensures _ _ r
+    ▹ at-word2 .word2 .ensures _ _ r
+    ▹ at-if-exists .if-exists .ensures _ _ r _ h
+    ▹ at-name .name .ensures _ r
 
 pub drop-type-spec : {M : Type 1} → statement M
 drop-type-spec =

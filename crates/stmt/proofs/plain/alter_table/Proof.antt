@@ -12,7 +12,10 @@ returns c r =
     let at-run = at-alter-table-body .before .before .before .before in
     let at-word2 = at-run .before .before .before .before in
     let at-word = at-word2 .before .before .before .before in
-    at-word .word .ensures _ _ r ▹ at-word2 .word2 .ensures _ _ r ▹ at-run .run .ensures _ r ▹ at-alter-table-body .alter-table-body .ensures r
+    at-word .word .ensures _ _ r
+    ▹ at-word2 .word2 .ensures _ _ r
+    ▹ at-run .run .ensures _ r
+    ▹ at-alter-table-body .alter-table-body .ensures r
 
 pub alter-table-spec : {M : Type 1} → statement M
 alter-table-spec =

@@ -14,7 +14,11 @@ returns c d r =
     let at-word2 = at-run2 .before .before .before .before in
     let at-run = at-word2 .before .before .before .before in
     let at-word = at-run .before .before .before .before in
-    at-word .word .ensures _ d r ▹ at-run .run .ensures d r ▹ at-word2 .word2 .ensures _ d r ▹ at-run2 .run2 .ensures d r ▹ at-clause .clause .ensures d r
+    at-word .word .ensures _ d r
+    ▹ at-run .run .ensures d r
+    ▹ at-word2 .word2 .ensures _ d r
+    ▹ at-run2 .run2 .ensures d r
+    ▹ at-clause .clause .ensures d r
 
 pub attach-spec : {M : Type 1} → statement M
 attach-spec =

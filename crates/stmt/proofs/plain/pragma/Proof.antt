@@ -12,7 +12,9 @@ returns c d r =
     let at-run2 = c .before .before in
     let at-run = at-run2 .before .before .before .before in
     let at-word = at-run .before .before .before .before in
-    at-word .word .ensures _ d r ▹ at-run .run .ensures d r ▹ optional (at-run2 .run2 .ensures d r)
+    at-word .word .ensures _ d r
+    ▹ at-run .run .ensures d r
+    ▹ optional (at-run2 .run2 .ensures d r)
 
 pub pragma-spec : {M : Type 1} → statement M
 pragma-spec =

@@ -11,7 +11,9 @@ returns c d r =
     let at-clause2 = c .before .before in
     let at-clause = at-clause2 .before .before .before .before in
     let at-word = at-clause .before .before .before .before in
-    at-word .word .ensures _ d r ▹ at-clause .clause .ensures d r ▹ at-clause2 .clause2 .ensures d r
+    at-word .word .ensures _ d r
+    ▹ at-clause .clause .ensures d r
+    ▹ at-clause2 .clause2 .ensures d r
 
 pub rollback-spec : {M : Type 1} → statement M
 rollback-spec =

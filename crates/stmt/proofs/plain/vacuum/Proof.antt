@@ -12,7 +12,9 @@ returns c d r =
     let at-clause = c .before .before in
     let at-run = at-clause .before .before .before .before in
     let at-word = at-run .before .before .before .before in
-    at-word .word .ensures _ d r ▹ optional (at-run .run .ensures d r) ▹ at-clause .clause .ensures d r
+    at-word .word .ensures _ d r
+    ▹ optional (at-run .run .ensures d r)
+    ▹ at-clause .clause .ensures d r
 
 pub vacuum-spec : {M : Type 1} → statement M
 vacuum-spec =

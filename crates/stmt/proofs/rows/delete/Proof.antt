@@ -17,7 +17,13 @@ returns c r =
     let at-word2 = at-run .before .before .before .before in
     let at-word = at-word2 .before .before .before .before in
     let at-with-clause = at-word .before .before .before .before in
-    optional (at-with-clause .with-clause .ensures r) ▹ at-word .word .ensures _ _ r ▹ at-word2 .word2 .ensures _ _ r ▹ at-run .run .ensures _ r ▹ optional (at-run2 .run2 .ensures _ r) ▹ at-clause .clause .ensures _ r ▹ at-word-list .word-list .ensures _ r
+    optional (at-with-clause .with-clause .ensures r)
+    ▹ at-word .word .ensures _ _ r
+    ▹ at-word2 .word2 .ensures _ _ r
+    ▹ at-run .run .ensures _ r
+    ▹ optional (at-run2 .run2 .ensures _ r)
+    ▹ at-clause .clause .ensures _ r
+    ▹ at-word-list .word-list .ensures _ r
 
 pub delete-spec : {M : Type 1} → statement M
 delete-spec =

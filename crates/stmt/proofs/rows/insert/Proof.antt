@@ -17,7 +17,13 @@ returns c r =
     let at-word = at-run .before .before .before .before in
     let at-insert-or = at-word .before .before .before .before in
     let at-with-clause = at-insert-or .before .before .before .before in
-    optional (at-with-clause .with-clause .ensures r) ▹ at-insert-or .insert-or .ensures _ r ▹ at-word .word .ensures _ _ r ▹ at-run .run .ensures _ r ▹ at-columns .columns .ensures _ r ▹ at-run2 .run2 .ensures _ r ▹ at-word-list .word-list .ensures _ r
+    optional (at-with-clause .with-clause .ensures r)
+    ▹ at-insert-or .insert-or .ensures _ r
+    ▹ at-word .word .ensures _ _ r
+    ▹ at-run .run .ensures _ r
+    ▹ at-columns .columns .ensures _ r
+    ▹ at-run2 .run2 .ensures _ r
+    ▹ at-word-list .word-list .ensures _ r
 
 pub insert-spec : {M : Type 1} → statement M
 insert-spec =

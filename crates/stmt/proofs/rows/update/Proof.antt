@@ -16,7 +16,12 @@ returns c r =
     let at-clause = at-run .before .before .before .before in
     let at-word = at-clause .before .before .before .before in
     let at-with-clause = at-word .before .before .before .before in
-    optional (at-with-clause .with-clause .ensures r) ▹ at-word .word .ensures _ _ r ▹ at-clause .clause .ensures _ r ▹ at-run .run .ensures _ r ▹ optional (at-run2 .run2 .ensures _ r) ▹ at-update-rest .update-rest .ensures r
+    optional (at-with-clause .with-clause .ensures r)
+    ▹ at-word .word .ensures _ _ r
+    ▹ at-clause .clause .ensures _ r
+    ▹ at-run .run .ensures _ r
+    ▹ optional (at-run2 .run2 .ensures _ r)
+    ▹ at-update-rest .update-rest .ensures r
 
 pub update-spec : {M : Type 1} → statement M
 update-spec =

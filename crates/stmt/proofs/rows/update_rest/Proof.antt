@@ -12,7 +12,11 @@ returns c r =
     let at-from-given = at-clause .before .before .before .before in
     let at-comma = at-from-given .before .before .before .before in
     let at-word = at-comma .before .before .before .before in
-    at-word .word .ensures _ _ r ▹ at-comma .comma .ensures _ r ▹ at-from-given .from-given .ensures r ▹ at-clause .clause .ensures _ r ▹ at-word-list .word-list .ensures _ r
+    at-word .word .ensures _ _ r
+    ▹ at-comma .comma .ensures _ r
+    ▹ at-from-given .from-given .ensures r
+    ▹ at-clause .clause .ensures _ r
+    ▹ at-word-list .word-list .ensures _ r
 
 pub update-rest-spec : {M : Type 1} → statement M
 update-rest-spec =
