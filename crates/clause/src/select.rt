@@ -2,13 +2,11 @@
 ghost use mathlib.Core.Path.{_≡_};
 ghost use mathlib.Core.Bool.{cond};
 ghost use mathlib.Core.List.{[], _∷_};
-ghost use Prim.Native.Nat.{ℕ};
 ghost use Rattle.record.specs.declared.Record.{Record as Record'};
 ghost use Rattle.spelling.specs.Token.{TK-FROM};
 ghost use Rattle.grammar.specs.Kind.{SelectBody, CompoundSelect, OneSelect, Values, JoinedTable, Table, TableCall, TableSelect, Sub, CommonTableExpr};
 ghost use Rattle.grammar.specs.Shape.{slot, commas as commas', row as row'};
 ghost use Rattle.grammar.specs.Grammar.{shape, node, clause as clause', select as select', oneSelect, fromClause, selectTable, with};
-ghost use Rattle.tokens.specs.Tokens.{Source};
 ghost use Rattle.pen.specs.Pen.{source, Writes, Always, Below};
 ghost use Rattle.parts.specs.Lists.{RowOf};
 ghost use Rattle.clause.specs.Held.{held};

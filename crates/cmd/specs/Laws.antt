@@ -1,9 +1,9 @@
 -- Laws of the root: the groups that the kinds are in, and the ways through a root.
-use Prim.Native.Nat.{ℕ, zero, suc, _+_, _≤_, _<_}
+use Prim.Native.Nat.{ℕ, suc, _+_, _≤_, _<_}
 use native.Mathlib.Omega.{arith}
 use mathlib.Core.Path.{_≡_, refl, _∙_, sym, ap}
 use mathlib.Core.List.{List, [], _∷_, _++_}
-use mathlib.Core.Bool.{Bool, true, false, cond, _||_}
+use mathlib.Core.Bool.{Bool, true, false, _||_}
 use lib.Dec.{eqb}
 use borrow.Author.Tests.{eq-eqb, ne-eqb}
 use Rattle.laws.specs.Among.{among}
@@ -15,9 +15,9 @@ use Rattle.grammar.specs.Grammar.{from, node, shape, root, rootKinds}
 use Rattle.grammar.specs.Slots.{allowed}
 use Rattle.stream.specs.declared.Sink.{Sink}
 use Rattle.tokens.specs.Tokens as tokens
-use Rattle.tokens.specs.Tokens.{Source, rows, listed, placed, comma, means, whole, tokensOf}
+use Rattle.tokens.specs.Tokens.{placed, comma, means, whole, tokensOf}
 use Rattle.pen.specs.declared.Pen.{Pen}
-use Rattle.pen.specs.Pen.{source, Spot, Past, emit, put, Puts, Writes}
+use Rattle.pen.specs.Pen.{source, Spot, Past, emit, put, Writes}
 use Rattle.pen.specs.Places.{index, entered, alike}
 use Rattle.parts.specs.Laws.{a-list}
 use Rattle.stmt.specs.Groups.{before-all, behind-all, inside, among-both, or-none}

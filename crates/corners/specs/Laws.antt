@@ -10,8 +10,7 @@ use lib.Dec.{eqb, ltb}
 use lib.ListN.{length, getD, take, drop, replicate, length-append, length-drop}
 use lib.Seq.{take-append-seam, drop-cons}
 use lib.IntN.{ℤ}
-use borrow.Author.Tests.{eq-eqb, ne-eqb, eqb-true, lt-ltb, not-true, not-false}
-use Rattle.laws.specs.Tests.{or-left, or-right}
+use borrow.Author.Tests.{ne-eqb, lt-ltb}
 use Rattle.decimal.specs.Decimal as decimal
 use Rattle.decimal.specs.Spells.{Spells}
 use Rattle.decimal.specs.declared.Decimal.{Decimal}
@@ -24,20 +23,19 @@ use Rattle.grammar.specs.Kind.{NUMBER, TEXT}
 use Rattle.grammar.specs.Shape.{Shape, slot, decimal, brackets, quoted, rowid, source}
 use Rattle.grammar.specs.Grammar.{run}
 use Rattle.spelling.specs.Token.{TK-STRING, TK-WITHOUT, TK-LBRACKET, TK-RBRACKET}
-use Rattle.spelling.specs.Table.{spellingIn}
 use Rattle.stream.specs.Stream.{Token, some}
-use Rattle.stream.specs.Sink.{between, step}
+use Rattle.stream.specs.Sink.{between}
 use Rattle.stream.specs.declared.Sink.{Sink}
 use Rattle.tokens.specs.Corners.{bare, valued, id, newline, secondPart, without, dashes, sourced, quote, pairs}
 use Rattle.tokens.specs.Tokens as tokens
-use Rattle.tokens.specs.Tokens.{Source, Out, at, behind, part, say, of, then, placed, checked, means}
+use Rattle.tokens.specs.Tokens.{Out, at, behind, part, say, of, then, placed, checked, means}
 use Rattle.pen.specs.declared.Pen.{Pen}
 use Rattle.pen.specs.Pen as pen
 use Rattle.pen.specs.Pen.{Spot, Past, emit, put, Puts, Says, Writes}
-use Rattle.pen.specs.Laws.{puts-then, puts-on, puts-next, appended}
+use Rattle.pen.specs.Laws.{puts-on, puts-next}
 use Rattle.pen.specs.Unique.{writes-unique}
-use Rattle.pen.specs.Places.{index, skipped, entered}
-use Rattle.parts.specs.Laws.{of-other, of-this}
+use Rattle.pen.specs.Places.{index, entered}
+use Rattle.parts.specs.Laws.{of-this}
 
 -- of a tree, whatever its text is
 abbrev pub Textless : List ℕ → List ℕ → Shape → Spot → Spot → Type 0

@@ -1,5 +1,5 @@
 -- A record whose first three flag bits are given: there is one for each choice of them.
-use Prim.Native.Nat.{ℕ, _+_}
+use Prim.Native.Nat.{_+_}
 use mathlib.Core.Path.{_≡_, refl}
 use mathlib.Core.Bool.{Bool, true, false, cond}
 use Rattle.record.specs.declared.Record.{Record}

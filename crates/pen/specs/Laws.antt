@@ -1,10 +1,9 @@
 -- How what is written is put together, shape by shape.
 use Prim.Native.Nat.{ℕ}
 use Prim.Native.String.{String}
-use mathlib.Core.Path.{_≡_, refl, _∙_, ap, sym}
+use mathlib.Core.Path.{_≡_, refl, _∙_, ap}
 use mathlib.Core.List.{List, [], _∷_, _++_}
 use lib.ListN.{length}
-use lib.Seq.{length-sets}
 use Rattle.laws.specs.Text.{ascii}
 use Rattle.spelling.specs.Table.{spellingIn}
 use Rattle.stream.specs.Stream.{Token}

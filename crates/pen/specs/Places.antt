@@ -1,9 +1,9 @@
 -- The ways through a renderer of a place, of an optional part and of a part under a flag: one law each.
-use Prim.Native.Nat.{ℕ, zero, suc, _+_, _-_, _≤_, _<_}
+use Prim.Native.Nat.{ℕ, zero, suc, _+_, _-_, _≤_}
 use native.Mathlib.Omega.{arith}
 use native.Mathlib.Numerals.{sub-one}
 use mathlib.Core.Path.{_≡_, refl, _∙_, ap, sym}
-use mathlib.Core.List.{List, [], _∷_, _++_}
+use mathlib.Core.List.{List, [], _∷_}
 use mathlib.Core.Bool.{Bool, true, false, cond, not, _||_, or-true, false≢true}
 use lib.Dec.{eqb, ltb}
 use borrow.Author.Tests.{eq-eqb, ne-eqb, eqb-true, ltb-false, not-true, not-false}
@@ -11,16 +11,16 @@ use Rattle.laws.specs.Tests.{and-left, and-right, or-left, or-right}
 use Rattle.laws.specs.Among.{among, all}
 use Rattle.record.specs.Record.{recordAt}
 use Rattle.record.specs.declared.Record.{Record}
-use Rattle.grammar.specs.Kind.{NONE, LIST, TOKEN, RUN, TEXT}
+use Rattle.grammar.specs.Kind.{NONE, TOKEN, RUN, TEXT}
 use Rattle.grammar.specs.Shape.{Class, one, Shape, when, slot, given, filled, _·_}
 use Rattle.grammar.specs.Grammar.{run, text, node, shape}
 use Rattle.grammar.specs.Slots.{allowed}
 use Rattle.stream.specs.Stream.{Token}
 use Rattle.tokens.specs.Corners.{id}
 use Rattle.tokens.specs.Tokens as tokens
-use Rattle.tokens.specs.Tokens.{Source, Out, at, behind, part, say, of, ofKind, tokenOf, flagged, rows, listed, placed, leaf, means}
+use Rattle.tokens.specs.Tokens.{Source, Out, at, behind, part, of, ofKind, tokenOf, flagged, rows, placed, leaf, means}
 use Rattle.pen.specs.declared.Pen.{Pen}
-use Rattle.pen.specs.Pen.{source, Spot, Past, emit, put, Puts, Says, Writes, Always}
+use Rattle.pen.specs.Pen.{source, Spot, Past, emit, put, Puts, Says, Writes}
 
 -- a TOKEN of a RUN
 abbrev pub tokenAt : Source → ℕ → Out

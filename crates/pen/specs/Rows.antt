@@ -3,13 +3,13 @@ use Prim.Native.Nat.{ℕ, zero, suc, _+_, _-_, _≤_, _<_}
 use native.Mathlib.Omega.{arith}
 use native.Mathlib.Nat.{not-suc-le-zero}
 use native.Mathlib.Numerals.{sub-one}
-use mathlib.Core.Path.{_≡_, refl, _∙_, ap, sym}
-use mathlib.Core.List.{List, [], _∷_, _++_}
-use mathlib.Core.Bool.{Bool, true, false, cond}
+use mathlib.Core.Path.{_≡_, refl}
+use mathlib.Core.List.{List, [], _∷_}
+use mathlib.Core.Bool.{Bool, cond}
 use Rattle.stream.specs.Stream.{Token}
 use Rattle.tokens.specs.Tokens.{Out, say, then, rows}
 use Rattle.pen.specs.Pen.{Spot, emit, put, Puts, Says}
-use Rattle.pen.specs.Laws.{puts-then, puts-on}
+use Rattle.pen.specs.Laws.{puts-on}
 
 -- tokens if so
 abbrev pub opt : Bool → List Token → List Token

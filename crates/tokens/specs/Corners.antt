@@ -1,8 +1,7 @@
 -- 01, section 4: the corners kept from the crate, as tokens of a text part.
 use Prim.Native.Nat.{ℕ, zero, suc}
-use Prim.Native.String.{String}
 use mathlib.Core.List.{List, [], _∷_, _++_}
-use mathlib.Core.Bool.{Bool, true, false, cond, _&&_, _||_}
+use mathlib.Core.Bool.{Bool, false, cond, _&&_, _||_}
 use lib.Dec.{eqb}
 use lib.ListN.{length, take, drop}
 use Rattle.laws.specs.Text.{ascii}

@@ -1,6 +1,6 @@
 -- `root_elements` writes the elements of a root LIST: what is left of them from here is what was to be written at the start.
 use borrow.Author.Needs.{needs}
-use mathlib.Core.Path.{_≡_, refl, _∙_}
+use mathlib.Core.Path.{_≡_, _∙_}
 use mathlib.Core.List.{[]}
 use Rattle.record.specs.Laws as records
 use Rattle.grammar.specs.Shape.{one}

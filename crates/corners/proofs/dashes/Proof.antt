@@ -3,7 +3,7 @@ use borrow.Author.Needs.{needs}
 use native.Mathlib.Omega.{arith}
 use mathlib.Core.Path.{_≡_, refl, sym, _∙_}
 use Prim.Native.Nat.{_≤_, _-_}
-use lib.ListN.{drop, length}
+use lib.ListN.{drop}
 use Rattle.tokens.specs.Corners.{dashes}
 use Rattle.corners.specs.Laws.{dashes-found, dashes-next, dashes-end}
 use Rattle.corners.proofs.dashes.Statement.{statement}

@@ -1,5 +1,4 @@
 -- `parts::first_flag` is the bit.
-use borrow.Author.Needs.{needs}
 use Rattle.tokens.specs.Tokens.{flagged}
 use native.Mathlib.Nat.{div-one}
 use Rattle.parts.proofs.first_flag.Statement.{statement}

@@ -1,5 +1,4 @@
 -- `parts::second_flag` is the bit.
-use borrow.Author.Needs.{needs}
 use Rattle.tokens.specs.Tokens.{flagged}
 use Rattle.parts.proofs.second_flag.Statement.{statement}
 use Rattle.parts.proofs.second_flag.Tie as tie

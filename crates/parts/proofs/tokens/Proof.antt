@@ -1,6 +1,6 @@
 -- `parts::tokens` writes a row of TOKENs: what is left of it from here is what was to be written at the start.
 use borrow.Author.Needs.{needs}
-use mathlib.Core.Path.{_≡_, refl, _∙_}
+use mathlib.Core.Path.{_≡_, _∙_}
 use mathlib.Core.List.{[]}
 use Rattle.tokens.specs.Tokens.{rows}
 use Rattle.pen.specs.Pen.{source, put}

@@ -1,6 +1,6 @@
 -- `constraint::constraint_name` passes over NONE.
 use borrow.Author.Needs.{needs}
-use Rattle.pen.specs.Laws.{_▹_, same}
+use Rattle.pen.specs.Laws.{_▹_}
 use Rattle.pen.specs.Places.{optional, given-none, given-some}
 use Rattle.clause.proofs.constraint.constraint_name.Statement.{statement}
 use Rattle.clause.proofs.constraint.constraint_name.Tie as tie

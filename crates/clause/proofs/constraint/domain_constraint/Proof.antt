@@ -1,7 +1,7 @@
 -- `constraint::domain_constraint` writes its entry, a step a call.
 use borrow.Author.Needs.{needs}
 use mathlib.Core.Path.{refl}
-use Rattle.pen.specs.Laws.{_▹_, same}
+use Rattle.pen.specs.Laws.{_▹_}
 use Rattle.pen.specs.Places.{shut, opened}
 use Rattle.grammar.specs.Grammar.{shape}
 use Rattle.clause.proofs.constraint.domain_constraint.Statement.{statement}

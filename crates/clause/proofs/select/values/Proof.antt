@@ -1,6 +1,6 @@
 -- `select::values` passes over an empty LIST.
 use borrow.Author.Needs.{needs}
-use Rattle.pen.specs.Laws.{_▹_, same}
+use Rattle.pen.specs.Laws.{_▹_}
 use Rattle.pen.specs.Places.{filled-none, filled-some}
 use Rattle.grammar.specs.Grammar.{shape}
 use Rattle.clause.proofs.select.values.Statement.{statement}

@@ -1,7 +1,7 @@
 -- `types::operator_clause` writes its entry, a step a call.
 use borrow.Author.Needs.{needs}
 use mathlib.Core.Path.{refl}
-use Rattle.pen.specs.Laws.{_▹_, a-said, same}
+use Rattle.pen.specs.Laws.{_▹_, a-said}
 use Rattle.pen.specs.Places.{shut, opened, optional}
 use Rattle.grammar.specs.Grammar.{shape}
 use Rattle.clause.proofs.types.operator_clause.Statement.{statement}

@@ -1,6 +1,6 @@
 -- `types::size` passes over NONE.
 use borrow.Author.Needs.{needs}
-use Rattle.pen.specs.Laws.{_▹_, same}
+use Rattle.pen.specs.Laws.{_▹_}
 use Rattle.pen.specs.Places.{optional, given-none, given-some}
 use Rattle.clause.proofs.types.size.Statement.{statement}
 use Rattle.clause.proofs.types.size.Tie as tie

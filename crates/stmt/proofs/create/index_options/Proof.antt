@@ -1,6 +1,6 @@
 -- `create::index_options` passes over an empty LIST.
 use borrow.Author.Needs.{needs}
-use Rattle.pen.specs.Laws.{_▹_, same}
+use Rattle.pen.specs.Laws.{_▹_}
 use Rattle.pen.specs.Places.{filled-none, filled-some}
 use Rattle.clause.specs.Held.{held}
 use Rattle.stmt.proofs.create.index_options.Statement.{statement}

@@ -1,6 +1,6 @@
 -- `create::number_clause_of_two` passes over NONE.
 use borrow.Author.Needs.{needs}
-use Rattle.pen.specs.Laws.{_▹_, a-said, same}
+use Rattle.pen.specs.Laws.{_▹_, a-said}
 use Rattle.pen.specs.Places.{given-none, given-some}
 use Rattle.stmt.proofs.create.number_clause_of_two.Statement.{statement}
 use Rattle.stmt.proofs.create.number_clause_of_two.Tie as tie
