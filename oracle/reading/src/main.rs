@@ -1,0 +1,50 @@
+//! Tries the reading rule, on the crate's texts and beside other readers.
+
+use reading::{broken, faults, sqlite, streams};
+use std::{env, process};
+use tokens::judge::text_of;
+
+const USAGE: &str = "usage: reading streams COUNT SEED
+       reading broken
+       reading faults
+       reading sqlite PROGRAM";
+
+fn main() {
+    let words: Vec<String> = env::args().skip(1).collect();
+    let words: Vec<&str> = words.iter().map(String::as_str).collect();
+    let passed = match words[..] {
+        ["streams", count, seed] => compare_streams(number(count), number(seed)),
+        ["broken"] => broken::try_all(),
+        ["faults"] => faults::try_all(),
+        ["sqlite", program] => compare_sqlite(program),
+        _ => fail(USAGE),
+    };
+    process::exit(if passed { 0 } else { 1 });
+}
+
+/// With texts that the crate writes.
+fn compare_streams(count: u64, seed: u64) -> bool {
+    let compared = streams::compare(count, seed, &|tokens| Ok(text_of(tokens).into_bytes()));
+    match compared {
+        Ok(counts) => println!("{counts}0 differences"),
+        Err(difference) => {
+            println!("{difference}");
+            return false;
+        }
+    }
+    true
+}
+
+fn compare_sqlite(program: &str) -> bool {
+    sqlite::compare(program).unwrap_or_else(|error| fail(&format!("{program}: {error}")));
+    true
+}
+
+fn number(word: &str) -> u64 {
+    word.parse().unwrap_or_else(|_| fail(USAGE))
+}
+
+fn fail(message: &str) -> ! {
+    eprintln!("{message}");
+    process::exit(2);
+}
