@@ -1,6 +1,6 @@
 #!/usr/bin/env bash
-# Builds the oracle, holds the stored files to it, and compares the library and the grammar's entries with the crate
-# and the check with the model.
+# Builds the oracle, holds the stored files to it, and compares the library and the grammar's entries with the crate,
+# the check with the model, and what append writes with the reading rule.
 # `run.sh --store` writes the stored files instead, and ends.
 set -euo pipefail
 
@@ -24,6 +24,7 @@ SEED=${SEED:-1}
 TREE_CASES=${TREE_CASES:-1000000}
 TREES_RENDERED=${TREES_RENDERED:-1000000}
 ENTRIES=${ENTRIES:-1000000}
+STREAMS=${STREAMS:-1000000}
 ENTRY_FAULTS=20000
 LISTED=1000
 LISTED_SEED=1
@@ -88,6 +89,10 @@ if [ "${1:-}" = --store ]; then
 fi
 for_each_file hold
 
+echo "the reading rule against planted faults, and streams that break one of its rules:"
+"$programs/reading" faults
+"$programs/reading" broken | tail -1
+
 echo "the comparer against planted faults:"
 build --package compare --features compare/selftest
 "$programs/compare" faults
@@ -97,6 +102,9 @@ rt staticlib kinyandoma
 KINYANDOMA_LIB=target/staticlib build --package compare
 "$programs/compare" "$TOKENS" "$REFUSED" "$SEED"
 "$programs/compare" trees "$TREES_RENDERED" "$SEED"
+
+echo "the library's texts cut back by the reading rule, and by the crate's lexer:"
+"$programs/compare" reading "$STREAMS" "$SEED"
 
 echo "the check of trees against the model:"
 rt check replay_trees

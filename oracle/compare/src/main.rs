@@ -5,6 +5,7 @@ mod call;
 mod faults;
 mod guarded;
 mod hex;
+mod readable;
 mod refusals;
 mod report;
 mod rules;
@@ -14,11 +15,13 @@ mod streams;
 mod trees;
 
 use report::{Counts, Difference};
+use std::fmt::Display;
 use std::{env, process};
 use tokens::random::Random;
 
 const USAGE: &str = "usage: compare [TOKENS [REFUSED-CALLS [SEED]]]
-       compare trees COUNT SEED";
+       compare trees COUNT SEED
+       compare reading COUNT SEED";
 const DEFAULT_CALLS: u64 = 1_000_000;
 const DEFAULT_SEED: u64 = 1;
 
@@ -34,7 +37,8 @@ fn main() {
     #[cfg(feature = "selftest")]
     try_faults(&words);
     let told = match words.first().map(String::as_str) {
-        Some("trees") => compare_trees(&words[1..]),
+        Some("trees") => compare_random(&words[1..], &trees::compare),
+        Some("reading") => compare_random(&words[1..], &readable::compare),
         _ => {
             let extent = extent(&words).unwrap_or_else(|| fail());
             compare_all(&extent, true).map_err(|difference| difference.to_string())
@@ -54,11 +58,14 @@ fn fail() -> ! {
     process::exit(2);
 }
 
-/// The whole-tree calls.
-fn compare_trees(words: &[String]) -> Result<(), String> {
+/// A comparison of so many random cases from a seed: prints its counts, or gives the difference.
+fn compare_random<C: Display, D: Display>(
+    words: &[String],
+    compare: &dyn Fn(u64, u64) -> Result<C, D>,
+) -> Result<(), String> {
     let number = |word: &String| word.parse().unwrap_or_else(|_| fail());
     let [count, seed] = words else { fail() };
-    let counts = trees::compare(number(count), number(seed));
+    let counts = compare(number(count), number(seed));
     let counts = counts.map_err(|difference| difference.to_string())?;
     println!("{counts}");
     Ok(())

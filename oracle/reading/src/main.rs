@@ -26,7 +26,7 @@ fn main() {
 fn compare_streams(count: u64, seed: u64) -> bool {
     let compared = streams::compare(count, seed, &|tokens| Ok(text_of(tokens).into_bytes()));
     match compared {
-        Ok(counts) => println!("{counts}0 differences"),
+        Ok(counts) => println!("{counts}\n0 differences"),
         Err(difference) => {
             println!("{difference}");
             return false;

@@ -131,13 +131,13 @@ impl fmt::Display for Partings {
         )?;
         writeln!(f, "of these refused by it: {}", self.refused)?;
         writeln!(f, "| Smallest text | The crate | Ours | Streams | Places |")?;
-        writeln!(f, "|---|---|---|---|---|")?;
+        write!(f, "|---|---|---|---|---|")?;
         for (parting, sort) in &self.sorts {
             let text = shown(&text_of(&sort.smallest));
             let Sort {
                 streams, places, ..
             } = sort;
-            writeln!(f, "| {text} | {parting} | {streams} | {places} |")?;
+            write!(f, "\n| {text} | {parting} | {streams} | {places} |")?;
         }
         Ok(())
     }
