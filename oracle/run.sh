@@ -93,6 +93,9 @@ echo "the reading rule against planted faults, and streams that break one of its
 "$programs/reading" faults
 "$programs/reading" broken | tail -1
 
+echo "every short readable stream cut back by the reading rule, and by the crate's lexer:"
+"$programs/reading" short
+
 echo "the comparer against planted faults:"
 build --package compare --features compare/selftest
 "$programs/compare" faults

@@ -10,6 +10,7 @@ pub mod list;
 pub mod listed;
 pub mod partings;
 pub mod rule;
+pub mod short;
 pub mod shown;
 pub mod shrink;
 pub mod sqlite;

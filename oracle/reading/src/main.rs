@@ -1,10 +1,12 @@
 //! Tries the reading rule, on the crate's texts and beside other readers.
 
-use reading::{broken, faults, sqlite, streams};
+use reading::streams::{self, Counts};
+use reading::{broken, faults, short, sqlite};
 use std::{env, process};
 use tokens::judge::text_of;
 
 const USAGE: &str = "usage: reading streams COUNT SEED
+       reading short
        reading broken
        reading faults
        reading sqlite PROGRAM";
@@ -13,7 +15,8 @@ fn main() {
     let words: Vec<String> = env::args().skip(1).collect();
     let words: Vec<&str> = words.iter().map(String::as_str).collect();
     let passed = match words[..] {
-        ["streams", count, seed] => compare_streams(number(count), number(seed)),
+        ["streams", count, seed] => told(compare_streams(number(count), number(seed))),
+        ["short"] => told(short::compare()),
         ["broken"] => broken::try_all(),
         ["faults"] => faults::try_all(),
         ["sqlite", program] => compare_sqlite(program),
@@ -23,8 +26,12 @@ fn main() {
 }
 
 /// With texts that the crate writes.
-fn compare_streams(count: u64, seed: u64) -> bool {
-    let compared = streams::compare(count, seed, &|tokens| Ok(text_of(tokens).into_bytes()));
+fn compare_streams(count: u64, seed: u64) -> Result<Counts, String> {
+    streams::compare(count, seed, &|tokens| Ok(text_of(tokens).into_bytes()))
+}
+
+/// Prints the counts, or the difference.
+fn told(compared: Result<Counts, String>) -> bool {
     match compared {
         Ok(counts) => println!("{counts}\n0 differences"),
         Err(difference) => {

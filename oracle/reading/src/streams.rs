@@ -40,10 +40,7 @@ pub fn compare(count: u64, seed: u64, write: Writer) -> Result<Counts, String> {
         let tokens = tokens_of(&items);
         hold_generator(&items, &tokens)?;
         let text = write(&tokens)?;
-        let cut = DOCUMENT.cut(&text);
-        hold_cut(&items, &text, &cut)?;
-        counts.add(&items, &text);
-        counts.partings.add(&tokens, &text, &cut.lexemes);
+        counts.hold(&items, &tokens, &text)?;
     }
     Ok(counts)
 }
@@ -89,6 +86,15 @@ fn is_at(spelled: &Spelled, text: &[u8], lexeme: &Lexeme) -> bool {
 }
 
 impl Counts {
+    /// Holds the cut of a stream's text to its items, counts it, and has the crate's lexer cut it too.
+    pub fn hold(&mut self, items: &[Item], tokens: &[Token], text: &[u8]) -> Result<(), String> {
+        let cut = DOCUMENT.cut(text);
+        hold_cut(items, text, &cut)?;
+        self.add(items, text);
+        self.partings.add(tokens, text, &cut.lexemes);
+        Ok(())
+    }
+
     /// Counts a stream that was cut back.
     fn add(&mut self, items: &[Item], text: &[u8]) {
         self.streams += 1;
