@@ -78,11 +78,6 @@ fn with_newline() -> Vec<Broken> {
         (newline, between(TK_COMMA), CutBack),
         (newline, between(TK_LP), CutBack),
         (newline, between(TK_DOT), CutBack),
-        (
-            newline,
-            vec![Token::with(TK_ARRAY_CONTAINS, "\n")],
-            NotCutBack,
-        ),
     ]
 }
 
@@ -98,7 +93,7 @@ fn no_lexeme() -> Vec<Broken> {
         (nothing, vec![id("a"), id(""), id("b")], NotCutBack),
         (nothing, vec![id("a"), id("\n"), id("b")], NotCutBack),
         (mark, vec![id("a"), id(","), id("b")], CutBack),
-        (mark, vec![id("1"), id("."), id("5")], CutBack),
+        (mark, vec![id("a"), id("."), id("b")], CutBack),
         (mark, vec![id("("), id("a"), bare(TK_RP)], CutBack),
         (unlisted, vec![id("'a"), id("'b'")], NotCutBack),
         (unlisted, vec![id("X'0"), id("b")], NotCutBack),

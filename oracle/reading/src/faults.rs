@@ -36,9 +36,10 @@ const FAULTS: &[Fault] = &[
     ("a blob's digits are tested", |rule| {
         rule.row(Kind::Blob).takes = through_hex_digits
     }),
-    ("an unclosed blob is a word", |rule| {
-        rule.row(Kind::Blob).begins = |text| through_hex_digits(text).is_some()
-    }),
+    (
+        "an unclosed blob, or one of other bytes, is a word",
+        |rule| rule.row(Kind::Blob).begins = |text| through_hex_digits(text).is_some(),
+    ),
     ("a backtick is no quote", |rule| {
         rule.row(Kind::Quoted).begins = |text| matches!(text[0], b'\'' | b'"')
     }),

@@ -255,10 +255,12 @@ fn parts(random: &mut Random) -> usize {
     random.below(most)
 }
 
+/// So many drawn characters.
 fn filled(random: &mut Random, count: usize, draw: fn(&mut Random) -> char) -> String {
     (0..count).map(|_| draw(random)).collect()
 }
 
+/// A letter of either case, a digit, `_`, `$` or a wide character.
 fn word_part(random: &mut Random) -> char {
     match random.below(8) {
         0 => wide(random),
@@ -270,10 +272,12 @@ fn word_part(random: &mut Random) -> char {
     }
 }
 
+/// A decimal digit.
 fn digit(random: &mut Random) -> char {
     random.pick(&['0', '1', '2', '3', '4', '5', '6', '7', '8', '9'])
 }
 
+/// A hex digit of either case.
 fn hex_digit(random: &mut Random) -> char {
     match random.below(3) {
         0 => digit(random),

@@ -58,6 +58,7 @@ impl Kind {
 }
 
 impl Spelled {
+    /// The lexeme with this kind and text.
     pub fn new(kind: Kind, text: &str) -> Spelled {
         let text = text.to_string();
         Spelled { kind, text }

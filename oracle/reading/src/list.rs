@@ -69,14 +69,17 @@ fn variable(bytes: &[u8]) -> bool {
     }
 }
 
+/// At least one digit, and nothing else.
 fn digits(bytes: &[u8]) -> bool {
     !bytes.is_empty() && bytes.iter().all(u8::is_ascii_digit)
 }
 
+/// What a word begins with.
 fn name_start(byte: u8) -> bool {
     matches!(byte, b'A'..=b'Z' | b'a'..=b'z' | b'_' | 0x80..)
 }
 
+/// What a word or a variable goes on with.
 fn name_byte(byte: &u8) -> bool {
     name_start(*byte) || matches!(byte, b'0'..=b'9' | b'$')
 }

@@ -11,6 +11,7 @@ const USAGE: &str = "usage: reading streams COUNT SEED
        reading faults
        reading sqlite PROGRAM";
 
+/// Ends with status 0 if all is as it should be, 1 if not, 2 if the call is wrong.
 fn main() {
     let words: Vec<String> = env::args().skip(1).collect();
     let words: Vec<&str> = words.iter().map(String::as_str).collect();
@@ -42,15 +43,18 @@ fn told(compared: Result<Counts, String>) -> bool {
     true
 }
 
+/// Whatever the shell accepts, nothing fails on it.
 fn compare_sqlite(program: &str) -> bool {
     sqlite::compare(program).unwrap_or_else(|error| fail(&format!("{program}: {error}")));
     true
 }
 
+/// The number that a word of the call gives.
 fn number(word: &str) -> u64 {
     word.parse().unwrap_or_else(|_| fail(USAGE))
 }
 
+/// Tells what is wrong with the call.
 fn fail(message: &str) -> ! {
     eprintln!("{message}");
     process::exit(2);

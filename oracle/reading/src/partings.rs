@@ -114,6 +114,7 @@ fn same(ours: &[Lexeme], pieces: &[Piece]) -> bool {
     matches!((ours, pieces), ([a], [b]) if (a.start, a.end) == (b.start, b.end))
 }
 
+/// The parting of these lexemes and these tokens.
 fn parting(ours: &[Lexeme], pieces: &[Piece], refused: Option<&String>) -> Parting {
     Parting {
         ours: ours.iter().map(|lexeme| lexeme.kind).collect(),

@@ -111,14 +111,17 @@ pub fn run(text: &[u8], sort: fn(u8) -> bool) -> usize {
     other.unwrap_or(text.len())
 }
 
+/// What is skipped between lexemes.
 fn space_or_newline(byte: u8) -> bool {
     byte == b' ' || byte == b'\n'
 }
 
+/// One of the seven marks.
 fn begins_mark(text: &[u8]) -> bool {
     matches!(text[0], b',' | b';' | b'(' | b')' | b'.' | b'[' | b']')
 }
 
+/// A mark is one byte.
 fn one_byte(_: &[u8]) -> Option<usize> {
     Some(1)
 }
@@ -135,6 +138,7 @@ fn through_next_quote(text: &[u8]) -> Option<usize> {
     Some(opening + inner + 1)
 }
 
+/// One of the three quotes.
 fn begins_quoted(text: &[u8]) -> bool {
     matches!(text[0], b'\'' | b'"' | b'`')
 }
@@ -152,6 +156,7 @@ fn to_quote_not_doubled(text: &[u8]) -> Option<usize> {
     }
 }
 
+/// A digit.
 fn begins_number(text: &[u8]) -> bool {
     digit(text[0])
 }
@@ -167,30 +172,37 @@ fn digits_and_fraction(text: &[u8]) -> Option<usize> {
     Some(whole + dot + fraction)
 }
 
+/// A letter, `_` or a byte from 80 (hex) on.
 fn begins_word(text: &[u8]) -> bool {
     word_byte(text[0]) && !digit(text[0]) && text[0] != b'$'
 }
 
+/// A word takes all word bytes.
 fn all_word_bytes(text: &[u8]) -> Option<usize> {
     Some(run(text, word_byte))
 }
 
+/// One of the four first bytes of variables.
 fn begins_variable(text: &[u8]) -> bool {
     matches!(text[0], b'?' | b':' | b'@' | b'$')
 }
 
+/// A variable takes its first byte and all word bytes after it.
 fn first_and_word_bytes(text: &[u8]) -> Option<usize> {
     Some(1 + run(&text[1..], word_byte))
 }
 
+/// A byte of any listed operator.
 fn begins_operator(text: &[u8]) -> bool {
     operator_byte(text[0])
 }
 
+/// An operator takes all bytes that occur in operators.
 fn all_operator_bytes(text: &[u8]) -> Option<usize> {
     Some(run(text, operator_byte))
 }
 
+/// A decimal digit.
 pub fn digit(byte: u8) -> bool {
     byte.is_ascii_digit()
 }

@@ -22,6 +22,7 @@ fn steps(stream: &[Token]) -> Vec<Vec<Token>> {
     shorter.into_iter().chain(simpler).collect()
 }
 
+/// The stream with another token in a place.
 fn exchanged(stream: &[Token], place: usize, token: Token) -> Vec<Token> {
     let mut next = stream.to_vec();
     next[place] = token;

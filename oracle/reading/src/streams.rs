@@ -75,12 +75,14 @@ pub fn is_cut_back(rule: &Rule, items: &[Item], text: &[u8]) -> bool {
     cuts_back(items, text, &rule.cut(text))
 }
 
+/// Whether a cut is these items, one lexeme each, and did not fail.
 fn cuts_back(items: &[Item], text: &[u8], cut: &Cut) -> bool {
     let spelled = |(item, lexeme): (&Item, &Lexeme)| is_at(&item.spelled, text, lexeme);
     let mut pairs = items.iter().zip(&cut.lexemes);
     cut.stop.is_none() && items.len() == cut.lexemes.len() && pairs.all(spelled)
 }
 
+/// Whether a lexeme of the text has this kind and these bytes.
 fn is_at(spelled: &Spelled, text: &[u8], lexeme: &Lexeme) -> bool {
     spelled.kind == lexeme.kind && spelled.text.as_bytes() == &text[lexeme.start..lexeme.end]
 }
@@ -110,6 +112,7 @@ impl Counts {
         self.neighbours.extend(items.windows(2).map(pair));
     }
 
+    /// How many token numbers carried in this way.
     fn numbers_of(&self, carrier: Carrier) -> usize {
         let same = |entry: &&(Carrier, u16)| entry.0 == carrier;
         self.numbers.iter().filter(same).count()
@@ -168,6 +171,7 @@ impl Counts {
         writeln!(f, "| all | | {} |", all.join(" | "))
     }
 
+    /// How often a kind was carried in all.
     fn all_of(&self, kind: Kind) -> u64 {
         let in_carrier = |kinds: &[u64; KINDS.len()]| kinds[kind.index()];
         self.carried.iter().map(in_carrier).sum()

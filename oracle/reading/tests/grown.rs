@@ -11,6 +11,7 @@ const SEED: u64 = 1;
 /// More digits than a 64-bit number has.
 const MANY_DIGITS: usize = 30;
 
+/// The tokens of some streams, in a row.
 fn items() -> Vec<Item> {
     let grower = Grower::new();
     let mut random = Random::new(SEED);
