@@ -4,20 +4,10 @@ use crate::guarded::Guarded;
 use crate::hex::hex;
 #[cfg(feature = "selftest")]
 use crate::stand_in::kinyandoma_append;
-use std::fmt;
-
 #[cfg(not(feature = "selftest"))]
-extern "C" {
-    fn kinyandoma_append(
-        record: *mut u8,
-        record_len: usize,
-        out: *mut u8,
-        out_len: usize,
-        token: u16,
-        value: *const u8,
-        value_len: usize,
-    ) -> u64;
-}
+use calls::kinyandoma_append;
+use calls::{record, Answer};
+use std::fmt;
 
 /// All that a call is given, as it stands before.
 #[derive(Clone, Debug)]
@@ -36,12 +26,6 @@ pub struct Outcome {
     pub output: Vec<u8>,
     /// Whether the value and all bytes around the lent parts are as before.
     pub rest_untouched: bool,
-}
-
-#[derive(Clone, Copy, Debug, PartialEq)]
-pub struct Answer {
-    pub number: u32,
-    pub place: u32,
 }
 
 impl Call {
@@ -96,7 +80,7 @@ impl Call {
                 number: 0,
                 place: added.len() as u32,
             },
-            record: record(spaced, end as u64),
+            record: record(spaced, end as u64).to_vec(),
             output,
             rest_untouched: true,
         }
@@ -106,23 +90,6 @@ impl Call {
     pub fn count(&self) -> u64 {
         u64::from_le_bytes(self.record[1..9].try_into().expect("a record of 9 bytes"))
     }
-}
-
-impl Answer {
-    /// From number * 2^32 + place.
-    pub fn unpacked(packed: u64) -> Answer {
-        Answer {
-            number: (packed >> 32) as u32,
-            place: packed as u32,
-        }
-    }
-}
-
-/// The 9 bytes of a record.
-pub fn record(spaced: bool, count: u64) -> Vec<u8> {
-    let mut bytes = vec![u8::from(spaced)];
-    bytes.extend(count.to_le_bytes());
-    bytes
 }
 
 impl fmt::Display for Call {

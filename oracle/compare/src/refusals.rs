@@ -1,8 +1,9 @@
 //! Refused and damaged calls, against the rules: sweeps over small sets, then random ones.
 
-use crate::call::{record, Call};
+use crate::call::Call;
 use crate::report::{Counts, Difference};
 use crate::rules::{expected, LONGEST_VALUE};
+use calls::record;
 use tokens::judge::step;
 use tokens::random::Random;
 use tokens::token::{known_numbers, Token, VALUE_PRESENT};
@@ -33,7 +34,7 @@ fn check(part: &'static str, call: &Call, counts: &mut Counts) -> Checked {
 /// A call with `room` bytes left after three that stand.
 fn plain(spaced: bool, token: u16, value: &[u8], room: usize) -> Call {
     Call {
-        record: record(spaced, 3),
+        record: record(spaced, 3).to_vec(),
         output: vec![0xEE; 3 + room],
         token,
         value: value.to_vec(),
@@ -151,7 +152,7 @@ fn random_call(random: &mut Random) -> Call {
     let count = random.below(24);
     let room = random_room(random, value.len() + 20);
     let mut call = Call {
-        record: record(spaced, count as u64),
+        record: record(spaced, count as u64).to_vec(),
         output: random.bytes(count + room),
         token,
         value,

@@ -1,8 +1,9 @@
 //! Random streams, token by token, against the crate's own stream.
 
-use crate::call::{record, Call};
+use crate::call::Call;
 use crate::report::{Counts, Difference};
 use crate::rules::LONGEST_VALUE;
+use calls::record;
 use tokens::judge::{steps_of, Step};
 use tokens::random::Random;
 use tokens::token::Token;
@@ -70,7 +71,7 @@ fn first_call(steps: &[Step], random: &mut Random) -> Call {
     let start = some_or_none(random);
     let left = some_or_none(random);
     Call {
-        record: record(true, start as u64),
+        record: record(true, start as u64).to_vec(),
         output: random.bytes(start + length + left),
         token: 0,
         value: Vec::new(),

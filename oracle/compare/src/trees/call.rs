@@ -1,29 +1,13 @@
 //! One call: what is lent, and what comes of it.
 
-use crate::call::Answer;
 use crate::guarded::Guarded;
 #[cfg(feature = "selftest")]
 use crate::trees::stand_in::{kinyandoma_measure, kinyandoma_render};
+use calls::Answer;
+#[cfg(not(feature = "selftest"))]
+use calls::{kinyandoma_measure, kinyandoma_render};
 use model::damage::Case;
 use model::samples::Judged;
-
-#[cfg(not(feature = "selftest"))]
-extern "C" {
-    fn kinyandoma_measure(
-        tree: *const u8,
-        tree_len: usize,
-        text: *const u8,
-        text_len: usize,
-    ) -> u64;
-    fn kinyandoma_render(
-        tree: *const u8,
-        tree_len: usize,
-        text: *const u8,
-        text_len: usize,
-        out: *mut u8,
-        out_len: usize,
-    ) -> u64;
-}
 
 /// The number of an output that is too short.
 const NO_ROOM: u32 = 8;

@@ -8,7 +8,7 @@ const ARCHIVE: &str = "libkinyandoma.a";
 fn main() {
     println!("cargo:rerun-if-env-changed=KINYANDOMA_LIB");
     println!("cargo:rerun-if-changed=build.rs");
-    if env::var_os("CARGO_FEATURE_SELFTEST").is_some() {
+    if env::var_os("CARGO_FEATURE_UNLINKED").is_some() {
         return;
     }
     let folder = library_folder();
