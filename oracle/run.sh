@@ -2,6 +2,7 @@
 # Builds the oracle, holds the stored files to it, and compares the library and the grammar's entries with the crate,
 # the check with the model, and what append writes with the reading rule.
 # `run.sh --store` writes the stored files instead, and ends.
+# `run.sh --bench` tells the speed, the stack and the size of the library beside the crate's instead, and ends.
 set -euo pipefail
 
 # Stored files, from the repository's root.
@@ -34,10 +35,20 @@ cd "$oracle/.."
 export TURSO_SRC=${TURSO_SRC:-../shared/docs/src}
 programs=$oracle/target/release
 made=$oracle/target/made
+library=target/staticlib
+
+# What the library may call: no allocator is among them.
+CALLED='memcpy|memmove|memset|memcmp|bcmp'
+
+build_as() {
+    local profile=$1
+    shift
+    cargo build --quiet --offline --locked --profile "$profile" \
+        --manifest-path "$oracle/Cargo.toml" --target-dir "$oracle/target" "$@"
+}
 
 build() {
-    cargo build --quiet --offline --locked --release \
-        --manifest-path "$oracle/Cargo.toml" --target-dir "$oracle/target" "$@"
+    build_as release "$@"
 }
 
 check_sources() {
@@ -70,6 +81,29 @@ hold() {
     echo "as stored: $2"
 }
 
+# Bytes of the library's sections whose names begin so.
+bytes_of() {
+    size -A "$library/libkinyandoma.a" | awk -v name="$1" 'index($1, name) == 1 { sum += $2 } END { print sum + 0 }'
+}
+
+tell_size() {
+    echo "code: $(bytes_of .text) bytes, tables: $(bytes_of .rodata) bytes, data that changes: $(bytes_of .data) bytes"
+    local called
+    called=$(nm -u "$library/libkinyandoma.a" | awk '$1 == "U" { print $2 }' | sort -u)
+    echo "called from outside:" $called
+    if [ -n "$called" ] && grep -qvxE "$CALLED" <<< "$called"; then
+        echo "the library calls what it must not" >&2
+        exit 1
+    fi
+}
+
+bench() {
+    rt staticlib kinyandoma
+    KINYANDOMA_LIB=$library build_as timed --package bench
+    tell_size
+    "$oracle/target/timed/bench"
+}
+
 for_each_file() {
     "$1" spellings "$SPELLINGS"
     "$1" cases "$CASES"
@@ -81,6 +115,10 @@ for_each_file() {
 }
 
 check_sources
+if [ "${1:-}" = --bench ]; then
+    bench
+    exit
+fi
 build
 make_files
 if [ "${1:-}" = --store ]; then
@@ -102,7 +140,7 @@ build --package compare --features compare/selftest
 
 echo "the library against the crate:"
 rt staticlib kinyandoma
-KINYANDOMA_LIB=target/staticlib build --package compare
+KINYANDOMA_LIB=$library build --package compare
 "$programs/compare" "$TOKENS" "$REFUSED" "$SEED"
 "$programs/compare" trees "$TREES_RENDERED" "$SEED"
 
