@@ -1,6 +1,7 @@
 //! Readable streams, written by kinyandoma_append token by token and cut back by the reading rule.
 
-use crate::call::{record, Call};
+use crate::call::Call;
+use calls::record;
 use reading::streams::{self, Counts};
 use tokens::judge::text_of;
 use tokens::token::Token;
@@ -14,7 +15,7 @@ pub fn compare(count: u64, seed: u64) -> Result<Counts, String> {
 fn written(tokens: &[Token]) -> Result<Vec<u8>, String> {
     let text = text_of(tokens).into_bytes();
     let mut call = Call {
-        record: record(true, 0),
+        record: record(true, 0).to_vec(),
         output: vec![0; text.len()],
         token: 0,
         value: Vec::new(),
