@@ -1,20 +1,21 @@
 -- Laws of the check of one record: what each way through the tests of a record comes to.
-use Prim.Native.Nat.{ℕ, _+_, _-_, _<_}
+use Prim.Native.Nat.{ℕ, _+_, _-_, _%_, _<_}
 use native.Mathlib.Omega.{arith}
 use mathlib.Core.Path.{_≡_, refl, _∙_, ap, sym}
 use mathlib.Core.List.{List, [], _∷_}
-use mathlib.Core.Bool.{Bool, true, false, not, cond, _&&_, _||_, Bool·beq, false≢true}
+use mathlib.Core.Bool.{Bool, true, false, not, cond, _&&_, _||_, Bool·beq, false≢true, and-true}
 use lib.Dec.{leb, ltb, eqb}
 use lib.ListN.{length, replicate, length-replicate}
-use borrow.Author.Tests.{eq-eqb, ne-eqb, lt-ltb, le-ltb, not-true, not-false}
+use borrow.Author.Tests.{eqb-true, eq-eqb, ne-eqb, lt-ltb, le-ltb, not-true, not-false}
 use Rattle.laws.specs.Below.{below, at}
 use Rattle.utf8.specs.Rfc3629.{boundary}
+use Rattle.spelling.specs.Spelling.{known}
 use Rattle.record.specs.declared.Record.{Record}
 use Rattle.grammar.specs.Kind.{LIST, TOKEN, RUN}
 use Rattle.grammar.specs.Shape.{Class, one, list, oneOr, small}
 use Rattle.grammar.specs.Grammar.{shape}
 use Rattle.grammar.specs.Slots.{slotsOf, allowed, elements}
-use Rattle.grammar.specs.Classes.{classes, classesHeld, classAt, smallAt}
+use Rattle.grammar.specs.Classes.{classes, classesHeld, classAt, tokenAt, token-is, smallAt}
 use Rattle.grammar.specs.Bytes.{bytes}
 use Rattle.grammar.specs.Table.{allowedIn, flagsIn, slotsIn}
 use Rattle.grammar.specs.Laws.{kindsHeld, allowed-is, allowed-held, flags-are, slots-are}
@@ -102,6 +103,27 @@ pub all-fit : (t : List ℕ) (n : ℕ) (r : Record) (b k f d g : Bool) → t ≡
 unfolding fits
 all-fit t n r b k f d g e h q z ke fe de ge = rw (allows t n r b e h q z, ke, fe, de, ge)
 
+-- ---- a TOKEN has no children
+token-slots : slotsOf (shape TOKEN) ≡ []
+unfolding slotsOf shape
+token-slots = refl
+
+pub token-holds : (c : Class) (r : Record) → r .kind ≡ TOKEN → holds c r ≡ []
+unfolding holds
+token-holds c r k =
+    let s : slotsOf (shape (r .kind)) ≡ [] = ap (λ (n : ℕ). slotsOf (shape n)) k ∙ token-slots in
+    rw (ne-eqb (r .kind) LIST (λ z. omega arith), ne-eqb (r .kind) RUN (λ z. omega arith), s)
+
+-- what the place of a RUN's TOKENs asks, without the table
+pub token-fit : (r : Record) (b d : Bool) → b ≡ known (r .flags % 0x8000) → d ≡ fieldsFit r → (eqb (r .kind) TOKEN && (eqb (r .kids) 0 && (b && d))) ≡ fits (classAt tokenAt) r
+unfolding fits flagsFit rangeFits allowed
+token-fit r b d be de = rw (be, de, token-is) (by (eqb (r .kind) TOKEN) refl)
+  where
+    by : (t : Bool) → eqb (r .kind) TOKEN ≡ t → (eqb (r .kind) TOKEN && (eqb (r .kids) 0 && (known (r .flags % 0x8000) && fieldsFit r))) ≡ fits (one (TOKEN ∷ [])) r
+    by true e =
+        rw (e, token-holds (one (TOKEN ∷ [])) r (eqb-true (r .kind) TOKEN e), and-true)
+    by false e = rw e
+
 -- ---- the text part
 pub no-part : (x : List ℕ) (r : Record) (b : Bool) → b ≡ hasPart r → not b ≡ true → true ≡ inside x r
 unfolding inside
@@ -113,26 +135,26 @@ unfolding inside
 a-part x r b p q e h pe qe = rw (← e, h, pe, qe)
 
 -- ---- the first fault
-module _ (x : List ℕ) (r : Record) (i n left : ℕ) where
-  pub bad-mark : (r .mark ≡ 0x4E53 → ⊥) → Is (Mark i) ≡ faultIn x r i (place (65 - left) (classAt n))
+module _ (x : List ℕ) (r : Record) (i left : ℕ) (k : Class) where
+  pub bad-mark : (r .mark ≡ 0x4E53 → ⊥) → Is (Mark i) ≡ faultIn x r i (place (65 - left) k)
   unfolding faultIn faults
   bad-mark h = rw (ne-eqb (r .mark) 0x4E53 h)
 
-  module _ (m : r .mark ≡ 0x4E53) (b : Bool) (fe : b ≡ fits (classAt n) r) where
-    pub misfit : not b ≡ true → Is (Misfit i) ≡ faultIn x r i (place (65 - left) (classAt n))
+  module _ (m : r .mark ≡ 0x4E53) (b : Bool) (fe : b ≡ fits k r) where
+    pub misfit : not b ≡ true → Is (Misfit i) ≡ faultIn x r i (place (65 - left) k)
     unfolding faultIn faults
     misfit h = rw (eq-eqb (r .mark) 0x4E53 m, ← fe, h)
 
     module _ (f : not b ≡ false) (d : Bool) (de : d ≡ inside x r) where
-      pub outside : not d ≡ true → Is (Outside i) ≡ faultIn x r i (place (65 - left) (classAt n))
+      pub outside : not d ≡ true → Is (Outside i) ≡ faultIn x r i (place (65 - left) k)
       unfolding faultIn faults
       outside h = rw (eq-eqb (r .mark) 0x4E53 m, ← fe, f, ← de, h)
 
       module _ (g : not d ≡ false) where
-        pub deep : left ≡ 0 → Is (Deep i) ≡ faultIn x r i (place (65 - left) (classAt n))
+        pub deep : left ≡ 0 → Is (Deep i) ≡ faultIn x r i (place (65 - left) k)
         unfolding faultIn faults
         deep h = rw (eq-eqb (r .mark) 0x4E53 m, ← fe, f, ← de, g, lt-ltb deepest (65 - left) (omega arith))
 
-        pub fine : (left ≡ 0 → ⊥) → Fine ≡ faultIn x r i (place (65 - left) (classAt n))
+        pub fine : (left ≡ 0 → ⊥) → Fine ≡ faultIn x r i (place (65 - left) k)
         unfolding faultIn faults
         fine h = rw (eq-eqb (r .mark) 0x4E53 m, ← fe, f, ← de, g, le-ltb deepest (65 - left) (omega arith))

@@ -6,7 +6,9 @@ use mathlib.Core.Path.{_≡_, refl, _∙_, ap, sym}
 use mathlib.Core.List.{List, [], _∷_, _++_, map}
 use lib.ListN.{length, drop, replicate, drop-of-length-le}
 use lib.Seq.{drop-cons}
-use borrow.Author.Tests.{eq-eqb, ne-eqb, ltb-false, not-false}
+use mathlib.Core.Bool.{Bool, true, false, _||_}
+use lib.Dec.{eqb}
+use borrow.Author.Tests.{eqb-true, eq-eqb, ne-eqb, ltb-false, not-false}
 use Rattle.laws.specs.First.{AllPassed, all-passed}
 use Rattle.laws.specs.Tests.{and-left}
 use Rattle.record.specs.Record.{recordAt, count}
@@ -20,6 +22,7 @@ use Rattle.grammar.specs.Bytes.{bytes}
 use Rattle.grammar.specs.Table.{elementIn, slotsIn, slotIn}
 use Rattle.grammar.specs.Laws.{kindsHeld, allowed-held, element-held, element-is, slots-are, slots-few, slot-held, slot-is}
 use Rattle.tree.specs.Check.{Place, place, holds, fits, faults, deepest, scan}
+use Rattle.tree.specs.Laws.{token-holds}
 use Rattle.tree.specs.declared.Answer.{Answer}
 use Rattle.tree.specs.declared.Walk.{Walk}
 use Rattle.tree.specs.declared.Walk.the-variants.{Next, Refused}
@@ -41,6 +44,17 @@ module _ (x : List ℕ) (r : Record) (i n left : ℕ) (f : Fault) (found : f ≡
   unfolding faults fits
   fine-kind h = allowed-held n (r .kind) h (and-left (allowed (classAt n) (r .kind)) _ (not-false _ (passed .1 .0)))
 
+-- in a TOKEN's place it is one
+fine-token : (x : List ℕ) (r : Record) (i left : ℕ) (f : Fault) → f ≡ faultIn x r i (place (65 - left) (classAt tokenAt)) → f ≡ Fine → r .kind ≡ TOKEN
+unfolding faults fits allowed
+fine-token x r i left f found e =
+    let a : allowed (classAt tokenAt) (r .kind) ≡ true = and-left (allowed (classAt tokenAt) (r .kind)) _ (not-false _ (passed x r i tokenAt left f found e .1 .0)) in
+    eqb-true (r .kind) TOKEN (only (eqb (r .kind) TOKEN) (rw token-is at a))
+  where
+    only : (b : Bool) → (b || false) ≡ true → b ≡ true
+    only true h = refl
+    only false h = h
+
 -- ---- from a record to its children
 pub down : (t x : List ℕ) (i n left : ℕ) (r : Record) (f : Fault) (w : Walk) → i < count t → r ≡ recordAt t i → f ≡ faultIn x r i (place (65 - left) (classAt n)) → f ≡ Fine
     → left ≤ 64 → Walks t x (i + 1) (map (place (65 - (left - 1))) (holds (classAt n) r)) w → Walks t x i (place (65 - left) (classAt n) ∷ []) w
@@ -48,6 +62,15 @@ down t x i n left r f w h re found e l b =
     let one-left = fine-left x r i n left f found e in
     let d : 65 - (left - 1) ≡ 65 - left + 1 = omega arith in
     goes-down t x i (place (65 - left) (classAt n)) f h (rw re at found) w e (rw (d, re) at b)
+
+-- a TOKEN has no children, so the walk goes on behind it
+pub token-down : (t x : List ℕ) (i left : ℕ) (r : Record) (f : Fault) → i < count t → r ≡ recordAt t i → f ≡ faultIn x r i (place (65 - left) (classAt tokenAt)) → f ≡ Fine
+    → left ≤ 64 → Walks t x i (place (65 - left) (classAt tokenAt) ∷ []) (Next (i + 1))
+unfolding resumed
+token-down t x i left r f h re found e l =
+    let k : r .kind ≡ TOKEN = fine-token x r i left f found e in
+    down t x i tokenAt left r f (Next (i + 1)) h re found e l
+    (rw (token-holds (classAt tokenAt) r k) (record { is = λ rest. refl; ended = omega arith }))
 
 module _ (c : Class) (r : Record) where
   pub holds-list : r .kind ≡ LIST → holds c r ≡ replicate (r .kids) (elements c)

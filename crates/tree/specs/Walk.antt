@@ -3,6 +3,8 @@ use Prim.Native.Nat.{ℕ, suc, _+_, _-_, _≤_, _<_}
 use native.Mathlib.Omega.{arith}
 use mathlib.Core.Path.{_≡_, _∙_, sym}
 use mathlib.Core.List.{List, [], _∷_, _++_, map}
+use mathlib.Core.Bool.{Bool}
+use Rattle.grammar.specs.Shape.{Class}
 use Rattle.laws.specs.First.{first, within, first-some, first-none}
 use Rattle.record.specs.Record.{recordAt, count}
 use Rattle.record.specs.declared.Record.{Record}
@@ -12,7 +14,7 @@ use Rattle.tree.specs.declared.Walk.{Walk}
 use Rattle.tree.specs.declared.Walk.the-variants.{Next, Refused}
 use Rattle.tree.specs.declared.Fault.{Fault}
 use Rattle.tree.specs.declared.Fault.the-variants.{Fine, Is}
-use Rattle.tree.specs.Check.{Place, place, holds, faults, scan}
+use Rattle.tree.specs.Check.{Place, place, holds, fits, faults, scan}
 
 -- how the scan goes on behind a walk
 unfoldable pub resumed : List ℕ → List ℕ → Walk → List Place → Answer
@@ -32,6 +34,10 @@ pub record Walks (t x : List ℕ) (i : ℕ) (ps : List Place) (w : Walk) : Type 
 -- the first fault of a record at an index, in a place
 unfoldable pub faultIn : List ℕ → Record → ℕ → Place → Fault
 faultIn x r i p = first (within Is (faults x r i p)) Fine
+
+-- f is that fault with left records of depth to go, in whatever place it is that fit tells the record to fit
+abbrev pub FirstFault : List ℕ → Record → ℕ → ℕ → Bool → Fault → Type 0
+FirstFault x r i left fit f = (c : Class) → fit ≡ fits c r → f ≡ faultIn x r i (place (65 - left) c)
 
 -- a fault is its answer's, and none is fine
 pub same-fault : (a b : Answer) → Is a ≡ Is b → a ≡ b

@@ -10,13 +10,12 @@ ghost use Rattle.record.specs.Record.{count as count'};
 ghost use Rattle.grammar.specs.Bytes.{bytes};
 ghost use Rattle.grammar.specs.Grammar.{shape, root};
 ghost use Rattle.grammar.specs.Slots.{slotsOf};
-ghost use Rattle.grammar.specs.Classes.{classesHeld, classAt};
+ghost use Rattle.grammar.specs.Classes.{classesHeld, classAt, tokenAt};
 ghost use Rattle.grammar.specs.Laws.{kindsHeld};
 ghost use Rattle.tree.specs.Check.{place as at, holds, flagsFit, hasPart, fieldsFit, rangeFits, fits as fits', inside as inside', scan, malformed as malformed', Checks, numberOf, placeOf};
-ghost use Rattle.tree.specs.Walk.{Walks, faultIn};
+ghost use Rattle.tree.specs.Walk.{Walks, FirstFault};
 use grammar::ROOT;
 use grammar::SMALL;
-use grammar::TOKENS;
 use grammar::kind::LIST;
 use grammar::kind::NUMBER;
 use grammar::kind::RUN;
@@ -139,6 +138,13 @@ fn fits(table: &[u8], place: u8, r: Record) -> bool
     count_fits(table, place, r) & (flags_fit(table, r) & (fields_fit(r) & range_fits(place, r)))
 }
 
+// Whether a record may stand among the TOKENs of a RUN, as it is.
+fn token_fits(r: Record) -> bool
+    ensures { λ b. ⌜ b ≡ fits' (classAt tokenAt) r ⌝ }
+{
+    (r.kind == TOKEN) & ((r.kids == 0) & (spelling::known(r.flags % PRESENT) & fields_fit(r)))
+}
+
 // Whether a record's text part, where it has one, lies inside the text and between characters.
 fn inside(text: &[u8], r: Record) -> bool
     ensures { λ b. ⌜ b ≡ inside' (now (text .entry)) r ⌝ }
@@ -151,15 +157,14 @@ fn inside(text: &[u8], r: Record) -> bool
     (end <= text.len()) & (utf8::boundary(text, start) & utf8::boundary(text, end))
 }
 
-// The first fault of a record in a place with this depth left.
-fn first_fault(text: &[u8], table: &[u8], index: usize, place: u8, left: usize, r: Record) -> Fault
-    requires { ⌜ (now table ≡ bytes) × (place < classesHeld) ⌝ }
-    ensures { λ f. ⌜ f ≡ faultIn (now (text .entry)) r index (at (65 - left) (classAt place)) ⌝ }
+// The first fault of a record with this depth left, where fit tells whether it may stand in its place.
+fn first_fault(text: &[u8], index: usize, left: usize, r: Record, fit: bool) -> Fault
+    ensures { λ f. ⌜ FirstFault (now (text .entry)) r index left fit f ⌝ }
 {
     if r.mark != record::MARK {
         return Fault::Is(Answer::Mark(index));
     }
-    if !fits(table, place, r) {
+    if !fit {
         return Fault::Is(Answer::Misfit(index));
     }
     if !inside(text, r) {
@@ -205,6 +210,29 @@ pub fn place(a: Answer) -> usize
     }
 }
 
+// The TOKENs of a RUN, one behind the other: they have no children.
+fn check_tokens(tree: &[u8], text: &[u8], index: usize, left: usize, n: usize) -> Walk
+    requires { ⌜ (left < 64) × ((index ≤ count' (now tree)) × (n < 65536)) ⌝ }
+    ensures { λ w. ⌜ Walks (now (tree .entry)) (now (text .entry)) index (map (at (65 - left)) (replicate n (classAt tokenAt))) w ⌝ }
+{
+    let mut next = index;
+    let mut rest = n;
+    while 0 < rest {
+        if record::count(tree) <= next {
+            return Walk::Refused(Answer::Ends(next));
+        }
+        let r = record::read(tree, next);
+        let fit = token_fits(r);
+        let fault = first_fault(text, next, left, r, fit);
+        match fault {
+            Fault::Is(answer) => return Walk::Refused(answer),
+            Fault::Fine => next += 1,
+        }
+        rest -= 1;
+    }
+    Walk::Next(next)
+}
+
 // The record at an index, with all below it, in a place with this depth left.
 fn check_at(tree: &[u8], text: &[u8], table: &[u8], index: usize, place: u8, left: usize) -> Walk
     requires { ⌜ (now table ≡ bytes) × ((place < classesHeld) × (left ≤ 64)) ⌝ }
@@ -214,7 +242,8 @@ fn check_at(tree: &[u8], text: &[u8], table: &[u8], index: usize, place: u8, lef
         return Walk::Refused(Answer::Ends(index));
     }
     let r = record::read(tree, index);
-    let fault = first_fault(text, table, index, place, left, r);
+    let fit = fits(table, place, r);
+    let fault = first_fault(text, index, left, r, fit);
     match fault {
         Fault::Is(answer) => Walk::Refused(answer),
         Fault::Fine => check_below(tree, text, table, index + 1, place, left - 1, r),
@@ -247,7 +276,7 @@ fn check_below(
         );
     }
     if r.kind == RUN {
-        return check_row(tree, text, table, index, TOKENS, left, r.kids as usize);
+        return check_tokens(tree, text, index, left, r.kids as usize);
     }
     check_slots(tree, text, table, index, r.kind, left)
 }

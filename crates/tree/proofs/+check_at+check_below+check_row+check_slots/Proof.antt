@@ -31,7 +31,9 @@ use Rattle.grammar.proofs.slot.Reads as slot-reads
 use Rattle.grammar.proofs.slots.Reads as slots-reads
 use Rattle.record.proofs.count.Reads as count-reads
 use Rattle.record.proofs.read.Reads as read-reads
+use Rattle.tree.proofs.check_tokens.Reads as check-tokens-reads
 use Rattle.tree.proofs.first_fault.Reads as first-fault-reads
+use Rattle.tree.proofs.fits.Reads as fits-reads
 use Rattle.tree.proofs.+check_at+check_below+check_row+check_slots.{statement}
 use Rattle.tree.proofs.+check_at+check_below+check_row+check_slots.Tie.{close}
 
@@ -78,7 +80,7 @@ check-slots-below t =
     and 3 check-slots-kinds.ps (falls 3 check-slots-kinds.ps _<_ μ-check-slots t) check-slots.Pre
 
 abbrev check-at-calls : ℕ → check-at-lts.Claims
-check-at-calls t = (count-reads.Asked, count-reads.Learnt, read-reads.Asked, read-reads.Learnt, first-fault-reads.Asked, first-fault-reads.Learnt, check-below-below t, check-below.Post)
+check-at-calls t = (count-reads.Asked, count-reads.Learnt, read-reads.Asked, read-reads.Learnt, fits-reads.Asked, fits-reads.Learnt, first-fault-reads.Asked, first-fault-reads.Learnt, check-below-below t, check-below.Post)
 
 check-at-met : {M : Type 1} (t : ℕ) → check-at-lts.Closed (check-at-calls t) (check-at-at t) check-at.Post M
 check-at-met t =
@@ -88,35 +90,38 @@ check-at-met t =
     let at-args = c .before .before .before .before .before .args in
     past (at-args .tree .now) (at-args .text .now) _ _ (search needs))
     (λ c κs. search needs)  -- read-requires
-    (λ c κs.  -- first-fault-requires
+    (λ c κs.  -- fits-requires
     let at-pre = c .before .before .before .before .before .before .pre in
     (at-pre .1 .0, at-pre .1 .1 .0))
+    (λ c κs. search needs)  -- first-fault-requires
     (λ c. search needs)  -- enum-known-fault
     (λ c. search needs)  -- enum-told
     (λ c. search needs)  -- add-check-below
-    (λ c. fine-left _ _ _ _ _ _ (c .before .before .first-fault .ensures) (c .enum-told .given .1))  -- sub-check-below
+    (λ c.  -- sub-check-below
+    let found = (c .before .before .first-fault .ensures) _ (c .before .before .before .fits2 .ensures) in
+    fine-left _ _ _ _ _ _ found (c .enum-told .given .1))
     (λ c κs.  -- check-below-requires
-    let at-first-fault = c .before .before .first-fault in
-    let at-pre = c .before .before .before .before .before .before .before .before .before .pre in
-    let l = fine-left _ _ _ _ _ _ (at-first-fault .ensures) (c .enum-told .given .1) in
-    (omega arith, (at-pre .1 .0, (at-pre .1 .1 .0, (omega arith, (omega arith, fine-kind _ _ _ _ _ _ (at-first-fault .ensures) (c .enum-told .given .1) (at-pre .1 .1 .0)))))))
-    (λ c.  -- returns-2
-    let at-args = c .before .before .before .before .before .before .before .before .before .before .args in
-    let at-read = c .before .before .before .before .read in
-    let at-first-fault = c .before .before .before .first-fault in
-    faulted (at-args .tree .now) (at-args .text .now) _ _ _ (search needs)
-    (rw (at-read .ensures) at (at-first-fault .ensures)) _ (c .before .fault .given .1))
-    (λ c.  -- returns-3
-    let at-args = c .before .before .before .before .before .before .before .before .before .before .args in
-    let at-read = c .before .before .before .before .read in
-    let at-first-fault = c .before .before .before .first-fault in
+    let found = (c .before .before .first-fault .ensures) _ (c .before .before .before .fits2 .ensures) in
     let at-pre = c .before .before .before .before .before .before .before .before .before .before .pre in
+    let l = fine-left _ _ _ _ _ _ found (c .enum-told .given .1) in
+    (omega arith, (at-pre .1 .0, (at-pre .1 .1 .0, (omega arith, (omega arith, fine-kind _ _ _ _ _ _ found (c .enum-told .given .1) (at-pre .1 .1 .0)))))))
+    (λ c.  -- returns-2
+    let at-args = c .before .before .before .before .before .before .before .before .before .before .before .args in
+    let at-read = c .before .before .before .before .before .read in
+    let found = (c .before .before .before .first-fault .ensures) _ (c .before .before .before .before .fits2 .ensures) in
+    faulted (at-args .tree .now) (at-args .text .now) _ _ _ (search needs) (rw (at-read .ensures) at found) _
+    (c .before .fault .given .1))
+    (λ c.  -- returns-3
+    let at-args = c .before .before .before .before .before .before .before .before .before .before .before .args in
+    let at-read = c .before .before .before .before .before .read in
+    let found = (c .before .before .before .first-fault .ensures) _ (c .before .before .before .before .fits2 .ensures) in
+    let at-pre = c .before .before .before .before .before .before .before .before .before .before .before .pre in
     down (at-args .tree .now) (at-args .text .now) _ _ _ _ _ _ (search needs) (at-read .ensures)
-    (at-first-fault .ensures) (c .before .enum-told .given .1) (at-pre .1 .1 .1)
+    found (c .before .enum-told .given .1) (at-pre .1 .1 .1)
     (c .check-below .ensures))
 
 abbrev check-below-calls : ℕ → check-below-lts.Claims
-check-below-calls t = (element-reads.Asked, element-reads.Learnt, check-row-below t, check-row.Post, check-slots-below t, check-slots.Post)
+check-below-calls t = (element-reads.Asked, element-reads.Learnt, check-row-below t, check-row.Post, check-tokens-reads.Asked, check-tokens-reads.Learnt, check-slots-below t, check-slots.Post)
 
 check-below-met : {M : Type 1} (t : ℕ) → check-below-lts.Closed (check-below-calls t) (check-below-at t) check-below.Post M
 check-below-met t =
@@ -139,11 +144,11 @@ check-below-met t =
     let at-if1 = c .before .before .before .if1 in
     list-below (at-args .table .now) _ _ (at-pre .1 .0) (at-pre .1 .1 .0) (at-element .ensures) _ _ _ _
     _ _ (at-if1 .taken) (c .check-row .ensures))
-    (λ c. search needs)  -- cast-check-row-3
-    (λ c κs.  -- check-row-requires-2
+    (λ c. search needs)  -- cast-check-tokens
+    (λ c κs.  -- check-tokens-requires
     let at-pre = c .before .before .before .before .before .before .before .before .pre in
-    (omega arith, (at-pre .1 .0, (omega arith, (at-pre .1 .1 .1 .0, (at-pre .1 .1 .1 .1 .0, omega arith))))))
-    (λ c. run-below _ _ _ _ _ _ _ (c .before .before .if2 .taken) (c .check-row2 .ensures))  -- returns-2
+    (at-pre .1 .1 .1 .0, (at-pre .1 .1 .1 .1 .0, omega arith)))
+    (λ c. run-below _ _ _ _ _ _ _ (c .before .before .if2 .taken) (c .check-tokens .ensures))  -- returns-2
     (λ c κs.  -- check-slots-requires
     let at-pre = c .before .before .before .before .before .before .before .pre in
     (omega arith, (at-pre .1 .0, (at-pre .1 .1 .1 .1 .1, (at-pre .1 .1 .1 .0, at-pre .1 .1 .1 .1 .0)))))
