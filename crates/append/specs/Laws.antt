@@ -15,7 +15,9 @@ use Rattle.utf8.specs.Rfc3629.{Encoded}
 use Rattle.utf8.specs.Laws.{encoded-unique, place-within}
 use Rattle.utf8.specs.Decided.{decided}
 use Rattle.utf8.specs.declared.Encoding.{Encoding}
-use Rattle.spelling.specs.Spelling.{known, spelling}
+use Rattle.spelling.specs.Rows.{rows}
+use Rattle.spelling.specs.Spelling.{row, known, spelling}
+use Rattle.spelling.specs.Token.{TK-ID}
 use Rattle.spelling.specs.Table.{bytes, spellingIn}
 use Rattle.spelling.specs.Laws.{spells}
 use Rattle.laws.specs.First.{first, within, first-some, first-none, all-passed}
@@ -23,7 +25,7 @@ use Rattle.laws.specs.Sets.{sets-within}
 use Rattle.stream.specs.Stream.{added, adds, leaves}
 use Rattle.stream.specs.Sink.{State, most, pour, mark, step, given}
 use Rattle.stream.specs.Laws.{count-fits}
-use Rattle.stream.specs.Length.{adds-length, given-size}
+use Rattle.stream.specs.Length.{longestToken, adds-length, given-size}
 use Rattle.append.specs.declared.Stream.{Stream}
 use Rattle.append.specs.declared.Answer.{Answer}
 use Rattle.append.specs.declared.Answer.the-variants.{Added, Malformed, Unknown, TooLong, Broken, NoRoom}
@@ -75,14 +77,23 @@ emits x b p part value word token k ek ep e = rw (ek, ep) at e
 pub word-is : (table word : List ℕ) (token k : ℕ) → table ≡ bytes → k ≡ numberOf token → word ≡ spellingIn table k → word ≡ spelling (numberOf token)
 word-is table word token k t e w = rw (t, e) at w ∙ spells (numberOf token)
 
+-- TK_ID has no spelling
+no-word : spelling TK-ID ≡ []
+unfolding spelling row rows
+no-word = refl
+
+pub word-none : (token k : ℕ) → k ≡ numberOf token → k ≡ TK-ID → [] ≡ spelling (numberOf token)
+word-none token k e h = sym (ap spelling (sym e ∙ h) ∙ no-word)
+
 -- ---- how many they are: a count never stops short of them
 pub news-counted : (b : Bool) (token : ℕ) (value : List ℕ) → length value < 2 ^ 63 → length (adds b (tokenOf token value)) ≤ most
 unfolding tokenOf
 news-counted b token value h = omega (arith, adds-length b (tokenOf token value), given-size (present token) value)
 
-pub counts : (x : State) (b : Bool) (token : ℕ) (word value : List ℕ) → x ≡ emitted b [] token word value → x .0 .at ≡ counted b token word value
-unfolding counted
-counts x b token word value e = ap (λ (s : State). s .0 .at) e
+-- whatever part they are stored in
+pub counts : (x : State) (b : Bool) (part : List ℕ) (token : ℕ) (word value : List ℕ) → x ≡ emitted b part token word value → x .0 .at ≡ counted b token word value
+unfolding counted emitted step mark pour
+counts x b part token word value e = ap (λ (s : State). s .0 .at) e
 
 pub measured : (b : Bool) (token : ℕ) (word value : List ℕ) (n : ℕ) → length value < 2 ^ 63 → word ≡ spelling (numberOf token) → n ≡ counted b token word value
     → n ≡ length (adds b (tokenOf token value))
@@ -92,6 +103,11 @@ measured b token word value n h w e =
     let m = length (added b k (spelling k) (given (present token) value)) in
     let l : m ≤ most = news-counted b token value h in
     (rw w at e) ∙ count-fits 0 m (omega arith) ∙ zero-add m
+
+-- ---- no token adds more than a space and the longest spelling beside its value
+pub surely-fits : (rec : Stream) (token : ℕ) (value : List ℕ) (n : ℕ) → length value + longestToken ≤ n → length (news rec token value) ≤ n
+unfolding news tokenOf
+surely-fits rec token value n h = omega (arith, adds-length (rec .spaced) (tokenOf token value), given-size (present token) value)
 
 -- ---- 8, or the bytes
 pub no-room : (rec : Stream) (out : List ℕ) (token : ℕ) (value : List ℕ) (n : ℕ) → n ≡ length (news rec token value) → length out - rec .count < n

@@ -2,11 +2,13 @@
 //
 // `step` takes the record by value and returns it; `append` is the same over a lent record.
 ghost use mathlib.Core.Path.{_≡_};
-ghost use Prim.Native.Nat.{_≤_};
+ghost use Prim.Native.Nat.{_-_, _≤_};
 ghost use lib.ListN.{length};
-ghost use Rattle.append.specs.Append.{Appends, numberOf, present as present'};
+ghost use Rattle.spelling.specs.Spelling.{spelling};
+ghost use Rattle.append.specs.Append.{Appends, news, numberOf, present as present'};
 ghost use Rattle.append.specs.Steps.{Checks, Writes, emitted, counted};
 use spelling::table;
+use spelling::token::TK_ID;
 use stream::Sink;
 use utf8::Encoding;
 
@@ -15,6 +17,9 @@ const PRESENT: u16 = 0x8000;
 
 // No value is longer.
 const LONGEST: usize = 65536;
+
+// No token adds more beside its value: a space and the longest spelling.
+const LONGEST_TOKEN: usize = 14;
 
 // The stream record: the bit, and the bytes written so far.
 pub struct Stream {
@@ -102,29 +107,52 @@ fn measure(spaced: bool, token: u16, word: &[u8], value: &[u8]) -> usize
     s.at
 }
 
-// 8, or the bytes behind the record's count.
-fn write(rec: Stream, out: &mut [u8], token: u16, value: &[u8]) -> Next
-    requires { ⌜ rec .count ≤ length (now out) ⌝ }
+// The bytes behind the record's count, where there is room for them.
+fn put(rec: Stream, out: &mut [u8], token: u16, word: &[u8], value: &[u8]) -> Next
+    requires { ⌜ (rec .count ≤ length (now out)) × ((now word ≡ spelling (numberOf token)) × (length (news rec token (now value)) ≤ length (now out) - rec .count)) ⌝ }
     ensures { λ r. ⌜ Writes rec (now (out .entry)) token (now (value .entry)) (r .answer) (r .rec) (now (out .exit)) ⌝ }
 {
-    let words = table();
-    let word = spelling::of(&words, number_of(token));
     let count = rec.count;
+    let s = emit(rec.spaced, &mut out[count..], token, word, value);
+    Next {
+        answer: Answer::Added(s.at),
+        rec: Stream {
+            spaced: s.spaced,
+            count: count + s.at,
+        },
+    }
+}
+
+// 8, or the bytes, of a token whose kind is spelled as word: they are measured only where there may be no room.
+fn write_word(rec: Stream, out: &mut [u8], token: u16, word: &[u8], value: &[u8]) -> Next
+    requires { ⌜ (rec .count ≤ length (now out)) × (now word ≡ spelling (numberOf token)) ⌝ }
+    ensures { λ r. ⌜ Writes rec (now (out .entry)) token (now (value .entry)) (r .answer) (r .rec) (now (out .exit)) ⌝ }
+{
+    let room = out.len() - rec.count;
+    if value.len() + LONGEST_TOKEN <= room {
+        return put(rec, out, token, word, value);
+    }
     let n = measure(rec.spaced, token, word, value);
-    if out.len() - count < n {
+    if room < n {
         return Next {
             answer: Answer::NoRoom(n),
             rec,
         };
     }
-    let s = emit(rec.spaced, &mut out[count..], token, word, value);
-    Next {
-        answer: Answer::Added(n),
-        rec: Stream {
-            spaced: s.spaced,
-            count: count + n,
-        },
+    put(rec, out, token, word, value)
+}
+
+// 8, or the bytes behind the record's count. TK_ID, the most common kind, has no spelling to look up.
+fn write(rec: Stream, out: &mut [u8], token: u16, value: &[u8]) -> Next
+    requires { ⌜ rec .count ≤ length (now out) ⌝ }
+    ensures { λ r. ⌜ Writes rec (now (out .entry)) token (now (value .entry)) (r .answer) (r .rec) (now (out .exit)) ⌝ }
+{
+    let number = number_of(token);
+    if number == TK_ID {
+        return write_word(rec, out, token, b"", value);
     }
+    let words = table();
+    write_word(rec, out, token, spelling::of(&words, number), value)
 }
 
 // One token appended: the answer, and the record that is left.
