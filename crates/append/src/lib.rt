@@ -114,11 +114,12 @@ fn put(rec: Stream, out: &mut [u8], token: u16, word: &[u8], value: &[u8]) -> Ne
 {
     let count = rec.count;
     let s = emit(rec.spaced, &mut out[count..], token, word, value);
+    let after = count + s.at;
     Next {
         answer: Answer::Added(s.at),
         rec: Stream {
             spaced: s.spaced,
-            count: count + s.at,
+            count: after,
         },
     }
 }

@@ -8,9 +8,9 @@ use borrow.Author.Needs.{needs}
 use Rattle.append.proofs.put.Statement.{statement}
 use Rattle.append.proofs.put.Tie as tie
 
-add-t9 : tie.Need-add-t9
+add-after : tie.Need-add-after
 unfolding news
-add-t9 c =
+add-after c =
     let at-args = c .before .before .before .before .before .before .before .before .args in
     let short : length (at-args .value .now) < 2 ^ 63 = search needs in
     let whole : length (at-args .out .now) < 2 ^ 63 = search needs in
@@ -32,4 +32,4 @@ pub put-spec : {M : Type 1} → statement M
 put-spec =
     tie.close
     (tie.spec
-    (λ c. search needs) (λ c. search needs) (λ c. search needs) (λ c κs. search needs) add-t9 (λ c. search needs) returns)
+    (λ c. search needs) (λ c. search needs) (λ c. search needs) (λ c κs. search needs) add-after (λ c. search needs) returns)
