@@ -5,7 +5,7 @@ use crate::subject::{Room, Subject};
 use std::hint::black_box;
 
 /// Each subject has a turn in each round.
-const ROUNDS: usize = 25;
+const ROUNDS: usize = 41;
 /// A turn lasts about so many nanoseconds.
 const TURN: f64 = 4e6;
 /// Nanoseconds in a second.
@@ -25,19 +25,39 @@ extern "C" {
     fn clock_gettime(clock: i32, told: *mut Told) -> i32;
 }
 
-/// Nanoseconds of one pass over an input: the best turn's, for each subject.
-pub fn times(input: &Input, subjects: &[Subject]) -> Vec<f64> {
-    let mut room = Room::new(input);
-    let passes = |subject: &Subject| passes_in_a_turn(&mut room, *subject, input);
-    let passes: Vec<u32> = subjects.iter().map(passes).collect();
-    let mut best = vec![f64::INFINITY; subjects.len()];
-    for _ in 0..ROUNDS {
-        for (at, &subject) in subjects.iter().enumerate() {
-            let time = turn(&mut room, subject, input, passes[at]);
-            best[at] = best[at].min(time);
-        }
+/// Nanoseconds of one pass over an input: for each round, those of each subject.
+pub struct Times {
+    rounds: Vec<Vec<f64>>,
+}
+
+impl Times {
+    /// Each subject in turn, round after round.
+    pub fn new(input: &Input, subjects: &[Subject]) -> Times {
+        let mut room = Room::new(input);
+        let passes = |subject: &Subject| passes_in_a_turn(&mut room, *subject, input);
+        let passes: Vec<u32> = subjects.iter().map(passes).collect();
+        let mut round = || {
+            let turns = subjects.iter().zip(&passes);
+            let turns = turns.map(|(&subject, &passes)| turn(&mut room, subject, input, passes));
+            turns.collect()
+        };
+        let rounds = (0..ROUNDS).map(|_| round()).collect();
+        Times { rounds }
     }
-    best
+
+    /// The best round of the subject at a place.
+    pub fn best(&self, at: usize) -> f64 {
+        let times = self.rounds.iter().map(|round| round[at]);
+        times.fold(f64::INFINITY, f64::min)
+    }
+
+    /// How often one takes the time of another: the middle of what the rounds say, each of which has both.
+    pub fn ratio(&self, at: usize, to: usize) -> f64 {
+        let ratios = self.rounds.iter().map(|round| round[at] / round[to]);
+        let mut ratios: Vec<f64> = ratios.collect();
+        ratios.sort_by(f64::total_cmp);
+        ratios[ratios.len() / 2]
+    }
 }
 
 /// Doubled until they last long enough.

@@ -25,36 +25,40 @@ const ROOTS: [fn(Select) -> Stmt; 2] = [view, table];
 /// Records of a SELECT of one row besides the row's own.
 const VALUES_RECORDS: usize = 10;
 
+/// A way goes down by at most so many records at a time, less one: with as many brackets inside, the last ones are used.
+const SPARE: usize = 6;
+
 /// Each way as far as it is admitted, in each root; then two rows that fill a tree.
 pub fn trees() -> Vec<(&'static str, Vec<Item>)> {
-    let deepest = |&(name, around): &(&'static str, Around)| {
-        let items = ROOTS.map(|root| deepest(root, around));
-        (name, items.into())
-    };
+    let deepest = |&(name, around): &(&'static str, Around)| (name, deepest(around));
     let mut trees: Vec<(&str, Vec<Item>)> = AROUND.iter().map(deepest).collect();
     trees.push(("a RUN of 4,095 TOKENs", vec![row_of_tokens()]));
     trees.push(("a LIST of 4,086 RUNs", vec![row_of_runs()]));
     trees
 }
 
-/// As often as it is admitted, and then brackets, which take the fewest records.
-fn deepest(root: fn(Select) -> Stmt, around: Around) -> Item {
-    let name = || SelectTable::Table(qualified("t"), None, None);
-    let (value, _) = filled(root, around, all_from(only(name())));
-    let (_, item) = filled(root, in_brackets, value);
-    item
+/// As often as it is admitted, around a table in none or some brackets.
+fn deepest(around: Around) -> Vec<Item> {
+    let table = || SelectTable::Table(qualified("t"), None, None);
+    let mut items = vec![];
+    let mut first = all_from(only(table()));
+    for _ in 0..SPARE {
+        items.extend(ROOTS.map(|root| filled(root, around, first.clone())));
+        first = in_brackets(first);
+    }
+    items
 }
 
-/// The last select, and its item, before the tree is too deep.
-fn filled(root: fn(Select) -> Stmt, around: Around, first: Select) -> (Select, Item) {
+/// The last one before the tree is too deep.
+fn filled(root: fn(Select) -> Stmt, around: Around, first: Select) -> Item {
     let made = |select: &Select| Item::new(Box::new(Cmd::Explain(root(select.clone()))));
     let mut value = first;
     let mut item = made(&value).expect("an admitted tree");
     loop {
-        let next = around(value.clone());
-        match made(&next) {
-            None => return (value, item),
-            Some(deeper) => (value, item) = (next, deeper),
+        value = around(value);
+        match made(&value) {
+            None => return item,
+            Some(deeper) => item = deeper,
         }
     }
 }

@@ -1,6 +1,6 @@
 //! The tables, in Markdown.
 
-use crate::clock::times;
+use crate::clock::Times;
 use crate::count;
 use crate::item::{done, Input, Item};
 use crate::stack;
@@ -13,27 +13,24 @@ const MICRO: f64 = 1_000.0;
 /// What the room for a token needs besides its value: a space, and the longest spelling.
 const WORD: usize = 32;
 
+/// The subjects of the growth.
+const GROWING: [Subject; 3] = [Subject::CrateTokens, Subject::Measure, Subject::Render];
+
 /// Microseconds of a pass over each input, and how render stands to the crate.
 pub fn texts(inputs: &[Input]) {
     println!("\nMicroseconds a pass:\n");
     println!("| Input | Records | Bytes written | Crate: value to String | Crate: tokens to String | measure | render | render / value | render / tokens |");
     println!("|---|---|---|---|---|---|---|---|---|");
     for input in inputs {
-        let times = times(input, &TEXTS);
-        let [value, tokens, measure, render] = times[..] else {
-            unreachable!("a time for each subject")
-        };
+        let times = Times::new(input, &TEXTS);
+        let [value, tokens, measure, render] = [0, 1, 2, 3].map(|at| micro(times.best(at)));
         println!(
-            "| {} | {} | {} | {} | {} | {} | {} | {:.2} | {:.2} |",
+            "| {} | {} | {} | {value} | {tokens} | {measure} | {render} | {:.2} | {:.2} |",
             input.name,
             input.records(),
             input.written(),
-            micro(value),
-            micro(tokens),
-            micro(measure),
-            micro(render),
-            render / value,
-            render / tokens,
+            times.ratio(3, 0),
+            times.ratio(3, 1),
         );
     }
 }
@@ -44,14 +41,11 @@ pub fn appends(inputs: &[Input]) {
     println!("| Tokens of | Tokens | Crate: append | append | append / crate |");
     println!("|---|---|---|---|---|");
     for input in inputs {
-        let count = input.tokens() as f64;
-        let times = times(input, &APPENDS);
-        let (theirs, ours) = (times[0] / count, times[1] / count);
+        let times = Times::new(input, &APPENDS);
         let (name, count) = (&input.name, input.tokens());
-        println!(
-            "| {name} | {count} | {theirs:.1} | {ours:.1} | {:.2} |",
-            ours / theirs
-        );
+        let [theirs, ours] = [0, 1].map(|at| times.best(at) / count as f64);
+        let ratio = times.ratio(1, 0);
+        println!("| {name} | {count} | {theirs:.1} | {ours:.1} | {ratio:.2} |");
     }
 }
 
@@ -63,17 +57,12 @@ pub fn growth(series: &[Vec<Input>]) {
     );
     println!("|---|---|---|---|---|");
     for input in series.iter().flatten() {
-        let times = times(
-            input,
-            &[Subject::CrateTokens, Subject::Measure, Subject::Render],
-        );
+        let times = Times::new(input, &GROWING);
+        let [tokens, measure, render] = [0, 1, 2].map(|at| micro(times.best(at)));
+        let each = times.best(2) / input.records() as f64;
         println!(
-            "| {} | {} | {} | {} | {:.1} |",
-            input.name,
-            micro(times[0]),
-            micro(times[1]),
-            micro(times[2]),
-            times[2] / input.records() as f64,
+            "| {} | {tokens} | {measure} | {render} | {each:.1} |",
+            input.name
         );
     }
 }
