@@ -22,7 +22,10 @@ pub fn append(p: Pen, out: &mut [u8], words: &[u8], kind: u16, has: bool, value:
 {
     let s = stream::append(p.sink, out, kind, spelling::of(words, kind), has, value);
     Pen {
-        sink: s,
+        sink: Sink {
+            spaced: s.spaced,
+            at: s.at,
+        },
         next: p.next,
     }
 }
@@ -62,5 +65,11 @@ pub fn pass(p: Pen, tree: &[u8]) -> Pen
 {
     let s = p.sink;
     let next = behind(tree, p.next);
-    Pen { sink: s, next }
+    Pen {
+        sink: Sink {
+            spaced: s.spaced,
+            at: s.at,
+        },
+        next,
+    }
 }

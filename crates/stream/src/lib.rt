@@ -21,6 +21,7 @@ use spelling::token::TK_STRING;
 
 const MOST: usize = 0xffff_ffff_ffff_ffff;
 
+// It is handed on field by field: a copy of the whole would move its unused bytes too, and wait for them.
 pub struct Sink {
     pub spaced: bool,
     pub at: usize,
@@ -89,7 +90,10 @@ fn gap(s: Sink, out: &mut [u8], kind: u16) -> Sink
     ensures { λ r. ⌜ (r, now (out .exit)) ≡ mark (pour (s, now (out .entry)) (gap' (s .spaced) kind)) (gapped (s .spaced) kind) ⌝ }
 {
     if s.spaced | tight(kind) {
-        s
+        Sink {
+            spaced: s.spaced,
+            at: s.at,
+        }
     } else {
         let t = put(s, out, b" ");
         Sink {
@@ -115,7 +119,10 @@ fn spell(s: Sink, out: &mut [u8], kind: u16, word: &[u8]) -> Sink
     ensures { λ r. ⌜ (r, now (out .exit)) ≡ mark (pour (s, now (out .entry)) (now (word .entry))) (spelledBit (s .spaced) kind (now (word .entry))) ⌝ }
 {
     if word.len() == 0 {
-        s
+        Sink {
+            spaced: s.spaced,
+            at: s.at,
+        }
     } else {
         let t = put(s, out, word);
         Sink {
@@ -136,7 +143,10 @@ fn valued(s: Sink, out: &mut [u8], has: bool, value: &[u8]) -> Sink
             at: t.at,
         }
     } else {
-        s
+        Sink {
+            spaced: s.spaced,
+            at: s.at,
+        }
     }
 }
 
