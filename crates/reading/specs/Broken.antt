@@ -1,4 +1,4 @@
--- For each rule of the carriers a stream that breaks it alone, and what its text is cut into: not its spellings. So none of the rules can go.
+-- Streams that break one rule of section 5 each, and what their texts are cut into: not their spellings; and some that come back all the same.
 use Prim.Native.Nat.{ℕ, suc}
 use Prim.Native.String.{String}
 use mathlib.Core.Path.{_≡_, refl, ap, sym, _∙_}
