@@ -1,0 +1,105 @@
+//! Schema text, to the byte: safe calls of `libkinyandoma.a`, and an encoder of flat trees.
+//!
+//! A statement is built from [`Node`]s, [`Run`]s of tokens, lists and texts, and rendered:
+//!
+//! ```
+//! use kinyandoma::{render_to_string, Flag, Kind, Node, Run, Token};
+//!
+//! let not_null = Run::of([Token::TK_NOT, Token::TK_NULL]);
+//! let of_type = Node::new(Kind::TypeName).text("INTEGER").none().child(0);
+//! let column = Node::new(Kind::ColumnDefinition).id("meter").child(of_type).list([not_null]);
+//! let columns = Node::new(Kind::ColumnsAndConstraints).list([column]).empty_list().none().none();
+//! let table = Node::new(Kind::CreateTable).flag(Flag::IfNotExists).id("readings").child(columns);
+//!
+//! let (tree, text) = Node::new(Kind::Cmd).child(table).finish()?;
+//! assert_eq!(
+//!     render_to_string(&tree, &text)?,
+//!     "CREATE TABLE IF NOT EXISTS readings (meter INTEGER NOT NULL);"
+//! );
+//! # Ok::<(), Box<dyn std::error::Error>>(())
+//! ```
+//!
+//! A host that has tokens already writes them with a [`Stream`]. What a call refuses comes back as a [`Refusal`], with
+//! number and place; nothing is written then.
+
+#![warn(missing_docs)]
+#![forbid(unsafe_op_in_unsafe_fn)]
+
+mod calls;
+mod kind;
+mod refusal;
+mod stream;
+mod token;
+mod tree;
+mod writer;
+
+pub use kind::{
+    Flag, Kind, EXPLAIN, EXPLAIN_QUERY_PLAN, EXPLAIN_QUERY_PLAN_JSON, MATERIALIZED,
+    NOT_MATERIALIZED,
+};
+pub use refusal::{Reason, Refusal, MOST_BYTES};
+pub use stream::Stream;
+pub use token::Token;
+pub use tree::{id, list, text, Node, Part, Run};
+pub use writer::{EncodeError, MOST_RECORDS};
+
+use refusal::{settled, Asked};
+
+/// How long the text of a tree is.
+///
+/// `tree` is a row of 16-byte records, `text` the UTF-8 text that they name parts of. Any bytes are answered.
+///
+/// ```
+/// use kinyandoma::{id, measure};
+///
+/// let (tree, text) = id("readings").finish()?;
+/// assert_eq!(measure(&tree, &text)?, 8);
+/// assert_eq!(measure(&tree, b"").unwrap_err().number, 5);
+/// # Ok::<(), Box<dyn std::error::Error>>(())
+/// ```
+pub fn measure(tree: &[u8], text: &[u8]) -> Result<usize, Refusal> {
+    settled(Asked::Tree, calls::measure(tree, text))
+}
+
+/// Writes the text of a tree to `out` and answers its length; what stands behind it stays.
+///
+/// Room for exactly the length is enough. With less, the refusal's place is the length:
+///
+/// ```
+/// use kinyandoma::{id, render};
+///
+/// let (tree, text) = id("readings").finish()?;
+/// let mut out = *b"..........";
+/// let refusal = render(&tree, &text, &mut out[..7]).unwrap_err();
+/// assert_eq!((refusal.number, refusal.place), (8, 8));
+/// assert_eq!(render(&tree, &text, &mut out)?, 8);
+/// assert_eq!(&out, b"readings..");
+/// # Ok::<(), Box<dyn std::error::Error>>(())
+/// ```
+pub fn render(tree: &[u8], text: &[u8], out: &mut [u8]) -> Result<usize, Refusal> {
+    settled(Asked::Tree, calls::render(tree, text, out))
+}
+
+/// The text of a tree, in a vector of just its length.
+///
+/// ```
+/// use kinyandoma::{id, render_to_vec};
+///
+/// let (tree, text) = id("readings").finish()?;
+/// assert_eq!(render_to_vec(&tree, &text)?, b"readings");
+/// # Ok::<(), Box<dyn std::error::Error>>(())
+/// ```
+pub fn render_to_vec(tree: &[u8], text: &[u8]) -> Result<Vec<u8>, Refusal> {
+    let mut out = vec![0; measure(tree, text)?];
+    render(tree, text, &mut out)?;
+    Ok(out)
+}
+
+/// The text of a tree as a string.
+///
+/// # Panics
+/// Never: whole characters of UTF-8 are all that a tree's text is made of.
+pub fn render_to_string(tree: &[u8], text: &[u8]) -> Result<String, Refusal> {
+    let bytes = render_to_vec(tree, text)?;
+    Ok(String::from_utf8(bytes).expect("whole characters of UTF-8"))
+}

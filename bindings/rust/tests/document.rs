@@ -1,0 +1,191 @@
+//! The cases of document 01, section 6, and the refusals of section 3 that a caller of this crate can meet.
+
+use kinyandoma::{measure, render, render_to_string, Kind, Node, Reason, Run, Stream, Token};
+
+type Given = (Token, Option<&'static str>);
+
+const fn id(value: &'static str) -> Given {
+    (Token::TK_ID, Some(value))
+}
+
+const fn bare(token: Token) -> Given {
+    (token, None)
+}
+
+/// `DROP TYPE IF EXISTS geo;` as section 6 has it in hex.
+const TREE: [u8; 48] = [
+    0x53, 0x4E, 0x0A, 0, 0, 0, 1, 0, 0, 0, 0, 0, 0, 0, 0, 0, //
+    0x53, 0x4E, 0x3D, 0, 1, 0, 1, 0, 0, 0, 0, 0, 0, 0, 0, 0, //
+    0x53, 0x4E, 0x04, 0, 0, 0, 0, 0, 0, 0, 0, 0, 3, 0, 0, 0,
+];
+const TEXT: &[u8] = b"geo";
+const WRITTEN: &str = "DROP TYPE IF EXISTS geo;";
+
+#[test]
+fn streams_s1_to_s12() {
+    let cases: [(&[Given], &str); 12] = [
+        (&[], ""),
+        (&[id("a"), bare(Token::TK_COMMA), id("b")], "a, b"),
+        (&[id("a"), bare(Token::TK_DOT), id("b")], "a.b"),
+        (
+            &[id("f"), bare(Token::TK_LP), id("x"), bare(Token::TK_RP)],
+            "f (x)",
+        ),
+        (
+            &[
+                id("INT"),
+                bare(Token::TK_LBRACKET),
+                bare(Token::TK_RBRACKET),
+            ],
+            "INT[]",
+        ),
+        (&[bare(Token::TK_BLOB), id("a")], "X''a"),
+        (
+            &[id("a"), bare(Token::TK_BLOB), bare(Token::TK_COMMA)],
+            "a X'',",
+        ),
+        (
+            &[
+                (Token::TK_BEGIN, Some("\n")),
+                id("x"),
+                (Token::TK_SEMI, Some("\n")),
+                bare(Token::TK_END),
+            ],
+            "BEGIN\nx;\nEND",
+        ),
+        (&[id("a"), id(""), id("b")], "a b"),
+        (
+            &[(Token::TK_BEGIN, Some("")), bare(Token::TK_END)],
+            "BEGINEND",
+        ),
+        (&[id("\x0B"), id("a")], "\x0B a"),
+        (&[(Token::TK_LP, Some("z")), id("b")], "(z b"),
+    ];
+    for (tokens, expected) in cases {
+        let (mut stream, mut out) = (Stream::new(), Vec::new());
+        for (token, value) in tokens {
+            stream.append_to_vec(*token, *value, &mut out).unwrap();
+        }
+        assert_eq!(out, expected.as_bytes(), "{tokens:?}");
+    }
+}
+
+#[test]
+fn the_tree_in_hex() {
+    assert_eq!(measure(&TREE, TEXT), Ok(24));
+    assert_eq!(render_to_string(&TREE, TEXT).as_deref(), Ok(WRITTEN));
+    let mut out = [0; 23];
+    let refusal = render(&TREE, TEXT, &mut out).unwrap_err();
+    assert_eq!((refusal.number, refusal.place), (8, 24));
+    assert_eq!(refusal.reason, Reason::NoRoom);
+    assert_eq!(out, [0; 23]);
+}
+
+#[test]
+fn a_wrong_mark_with_bad_utf8_is_2() {
+    let mut tree = TREE;
+    tree[0] = 0;
+    let refusal = measure(&tree, b"ge\xFF").unwrap_err();
+    assert_eq!((refusal.number, refusal.place), (2, 2));
+    assert_eq!(refusal.reason, Reason::NotUtf8);
+    assert_eq!(measure(&tree, TEXT).unwrap_err().reason, Reason::Mark);
+}
+
+#[test]
+fn a_check_whose_source_has_a_comment() {
+    let check = Node::new(Kind::Check).child(Run::new()).text("a--b");
+    let (tree, text) = check.finish().unwrap();
+    assert_eq!(
+        render_to_string(&tree, &text).as_deref(),
+        Ok("CHECK (a--b \n)")
+    );
+}
+
+/// A FROM clause in brackets, `depth` records deep.
+fn nested(depth: usize) -> Node {
+    let table = |table: Node| Node::new(Kind::FromClause).child(table).empty_list();
+    let inner = Node::new(Kind::Table).child(Run::new()).none().none();
+    let mut from = table(inner);
+    for _ in 0..(depth - 3) / 2 {
+        from = table(Node::new(Kind::Sub).child(from).none());
+    }
+    from
+}
+
+#[test]
+fn depth_64_passes_and_65_gives_6() {
+    let below = |root: Kind, node: Node| Node::new(root).child(node).none();
+    let (tree, text) = below(Kind::Sub, nested(63)).finish().unwrap();
+    assert!(measure(&tree, &text).is_ok());
+    let (tree, text) = nested(65).finish().unwrap();
+    let refusal = measure(&tree, &text).unwrap_err();
+    assert_eq!(
+        (refusal.number, refusal.reason),
+        (6, Reason::TooDeep),
+        "{refusal}"
+    );
+}
+
+#[test]
+fn trees_of_wrong_lengths_are_1() {
+    for length in [0, 1, 15, 17, 65_537, 65_552] {
+        let refusal = measure(&vec![0; length], b"").unwrap_err();
+        assert_eq!((refusal.number, refusal.place), (1, 0));
+        assert_eq!(refusal.reason, Reason::TreeLength);
+    }
+}
+
+#[test]
+fn missing_and_left_over_records_are_7() {
+    let refusal = measure(&TREE[..32], TEXT).unwrap_err();
+    assert_eq!((refusal.number, refusal.place), (7, 2));
+    let longer = [&TREE[..], &TREE[..16]].concat();
+    let refusal = measure(&longer, TEXT).unwrap_err();
+    assert_eq!((refusal.number, refusal.place), (7, 3));
+    assert_eq!(refusal.reason, Reason::RecordCount);
+}
+
+#[test]
+fn a_text_that_is_too_long_is_2() {
+    let refusal = measure(&TREE, &vec![0xFF; 65_537]).unwrap_err();
+    assert_eq!((refusal.number, refusal.place), (2, 65_536));
+    assert_eq!(refusal.reason, Reason::TextTooLong);
+}
+
+#[test]
+fn refused_appends_change_nothing() {
+    let mut stream = Stream::new();
+    let mut out = *b"........";
+    stream
+        .append(Token::TK_ID, Some("abc"), &mut out[..3])
+        .unwrap();
+    let before = stream.clone();
+    let long = "x".repeat(65_537);
+    let refused = [
+        (stream.append(60, Some("d"), &mut out[..2]), (1, 0)),
+        (stream.append(169, None, &mut out), (4, 0)),
+        (stream.append(u16::MAX, None, &mut out), (4, 0)),
+        (stream.append(u16::MAX, None, &mut out[..2]), (1, 0)),
+        (stream.append(60, Some(&long), &mut out), (2, 65_536)),
+        (stream.append(60, Some("d"), &mut out[..4]), (8, 2)),
+    ];
+    for (answer, (number, place)) in refused {
+        let refusal = answer.unwrap_err();
+        assert_eq!((refusal.number, refusal.place), (number, place));
+    }
+    assert_eq!(stream, before);
+    assert_eq!(&out, b"abc.....");
+    assert_eq!(stream.append(60, Some("d"), &mut out), Ok(2));
+    assert_eq!(&out, b"abc d...");
+}
+
+#[test]
+fn a_refused_append_leaves_the_vector() {
+    let mut stream = Stream::new();
+    let mut out = vec![];
+    assert!(stream.append_to_vec(60, Some("a"), &mut out).is_ok());
+    assert!(stream.append_to_vec(169, None, &mut out).is_err());
+    assert_eq!(out, b"a");
+    let refusal = stream.append_to_vec(60, None, &mut Vec::new()).unwrap_err();
+    assert_eq!(refusal.reason, Reason::StreamRecord);
+}

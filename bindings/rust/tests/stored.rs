@@ -1,0 +1,98 @@
+//! The lists that the oracle stored: what the crate writes, and what is refused.
+
+mod common;
+
+use common::{hex, streams, trees, Stored};
+use kinyandoma::{measure, render, render_to_string, render_to_vec, Refusal, Stream};
+
+/// What stands in an output before.
+const BEFORE: u8 = 0xEE;
+
+/// `NUMBER PLACE`; a reader is told both, and more.
+fn refused(refusal: Refusal) -> String {
+    let (number, place) = (refusal.number, refusal.place);
+    let told = format!("refused with {number}, place {place}: ");
+    assert!(refusal.to_string().starts_with(&told), "{refusal}");
+    format!("{number} {place}")
+}
+
+/// The line that the calls make of a tree: `0 LENGTH HEXTEXT` or `NUMBER PLACE`.
+fn line(stored: &Stored) -> String {
+    match render_to_vec(&stored.tree, &stored.text) {
+        Ok(bytes) => format!("0 {} {}", bytes.len(), hex(&bytes)),
+        Err(refusal) => refused(refusal),
+    }
+}
+
+#[test]
+fn trees_are_written_as_stored() {
+    let stored = trees("replay_text");
+    let written = stored.iter().filter(|tree| line(tree).starts_with("0 "));
+    assert_eq!((stored.len(), written.count()), (895, 815));
+    for tree in &stored {
+        assert_eq!(line(tree), tree.expected, "tree {}", hex(&tree.tree));
+    }
+}
+
+#[test]
+fn render_keeps_to_its_room() {
+    for tree in trees("replay_text") {
+        let Ok(length) = measure(&tree.tree, &tree.text) else {
+            continue;
+        };
+        let mut out = vec![BEFORE; length + 3];
+        assert_eq!(render(&tree.tree, &tree.text, &mut out), Ok(length));
+        assert_eq!(format!("0 {length} {}", hex(&out[..length])), tree.expected);
+        assert_eq!(out[length..], [BEFORE; 3]);
+        if length > 0 {
+            let mut out = vec![BEFORE; length - 1];
+            let refusal = render(&tree.tree, &tree.text, &mut out).unwrap_err();
+            assert_eq!((refusal.number, refusal.place), (8, length));
+            assert!(out.iter().all(|&byte| byte == BEFORE));
+        }
+    }
+}
+
+#[test]
+fn trees_are_refused_as_stored() {
+    let stored = trees("replay_trees");
+    assert_eq!(stored.len(), 1000);
+    for tree in &stored {
+        let answer = match measure(&tree.tree, &tree.text) {
+            Ok(_) => "0 0".to_string(),
+            Err(refusal) => refused(refusal),
+        };
+        assert_eq!(answer, tree.expected, "tree {}", hex(&tree.tree));
+    }
+}
+
+#[test]
+fn every_text_is_a_string() {
+    for tree in trees("replay_text") {
+        if let Ok(text) = render_to_string(&tree.tree, &tree.text) {
+            let expected = format!("0 {} {}", text.len(), hex(text.as_bytes()));
+            assert_eq!(expected, tree.expected);
+        }
+    }
+}
+
+#[test]
+fn streams_are_written_as_stored() {
+    let stored = streams();
+    assert!(stored.len() > 1000, "{} streams", stored.len());
+    for case in &stored {
+        let (mut stream, mut grown) = (Stream::new(), Vec::new());
+        let (mut same, mut lent) = (Stream::new(), vec![BEFORE; case.expected.len()]);
+        for (token, value) in &case.tokens {
+            let added = stream.append_to_vec(*token, value.as_deref(), &mut grown);
+            let again = same.append(*token, value.as_deref(), &mut lent);
+            assert_eq!(added, again);
+            assert!(added.is_ok(), "{added:?}");
+        }
+        assert_eq!(stream, same);
+        assert_eq!(stream.written(), grown.len());
+        assert_eq!(grown, lent[..grown.len()]);
+        let line = format!("{} {}", hex(&grown), u8::from(stream.spaced()));
+        assert_eq!(line, case.expected, "{:?}", case.tokens);
+    }
+}
