@@ -1,0 +1,331 @@
+/* Calls the three functions of libkinyandoma.a on good and bad input, as a C program does.
+ *
+ * What is expected is document 01's: section 6 for the cases, section 3 for the numbers and places. Around every lent part
+ * stand known bytes, which must stay. One line a case, and `N passed, M failed` at the end. */
+#include "kinyandoma.h"
+
+#include <stdio.h>
+#include <string.h>
+
+enum {
+    RECORD = 9,            /* bytes of a stream record */
+    MOST = 65536,          /* most bytes of a tree, a text or a value */
+    GUARD = 32,            /* known bytes on each side of what is lent */
+    ROOM = 1024,           /* most room that a case gives */
+    BEFORE = 0xEE,         /* what stands in an output and around it */
+    VALUE_PRESENT = 0x8000 /* bit 15 of a token: a value is there */
+};
+
+/* Token numbers of token.rs. */
+enum {
+    TK_SEMI = 1,
+    TK_BEGIN = 5,
+    TK_END = 11,
+    TK_LP = 22,
+    TK_RP = 23,
+    TK_COMMA = 25,
+    TK_ID = 60,
+    TK_DOT = 142,
+    TK_BLOB = 154,
+    NO_TOKEN = 169,
+    TK_LBRACKET = 189,
+    TK_RBRACKET = 190
+};
+
+static int passed, failed;
+
+/* Counts a case, and tells it. */
+static void tell(const char *name, int as_expected) {
+    printf("%s: %s\n", as_expected ? "passed" : "FAILED", name);
+    as_expected ? passed++ : failed++;
+}
+
+/* An answer as the header packs it. */
+static uint64_t answer(uint32_t number, uint32_t place) {
+    return (uint64_t)number << 32 | place;
+}
+
+/* Whether all bytes from one place to another are as they were before the call. */
+static int untouched(const uint8_t *bytes, size_t from, size_t to) {
+    while (from < to && bytes[from] == BEFORE) {
+        from++;
+    }
+    return from >= to;
+}
+
+/* A part to be lent for writing, with bytes around it that must stay. */
+typedef struct {
+    uint8_t bytes[GUARD + ROOM + GUARD];
+} lent;
+
+static void prepare(lent *part) {
+    memset(part->bytes, BEFORE, sizeof part->bytes);
+}
+
+/* Whether the part begins with the expected bytes, and nothing else in it or around it has changed. */
+static int holds(const lent *part, const void *expected, size_t length) {
+    const uint8_t *inner = part->bytes + GUARD;
+    return memcmp(inner, expected, length) == 0 && untouched(part->bytes, 0, GUARD) &&
+           untouched(part->bytes, GUARD + length, sizeof part->bytes);
+}
+
+/* ---- streams: section 6, S1 to S12 */
+
+typedef struct {
+    uint16_t token;
+    const char *value; /* NULL where there is none */
+} token;
+
+typedef struct {
+    const char *name;
+    token tokens[5];
+    size_t count;
+    const char *text;
+} stream_case;
+
+static const stream_case STREAMS[] = {
+    {"S1", {{0, NULL}}, 0, ""},
+    {"S2", {{TK_ID, "a"}, {TK_COMMA, NULL}, {TK_ID, "b"}}, 3, "a, b"},
+    {"S3", {{TK_ID, "a"}, {TK_DOT, NULL}, {TK_ID, "b"}}, 3, "a.b"},
+    {"S4", {{TK_ID, "f"}, {TK_LP, NULL}, {TK_ID, "x"}, {TK_RP, NULL}}, 4, "f (x)"},
+    {"S5", {{TK_ID, "INT"}, {TK_LBRACKET, NULL}, {TK_RBRACKET, NULL}}, 3, "INT[]"},
+    {"S6", {{TK_BLOB, NULL}, {TK_ID, "a"}}, 2, "X''a"},
+    {"S7", {{TK_ID, "a"}, {TK_BLOB, NULL}, {TK_COMMA, NULL}}, 3, "a X'',"},
+    {"S8", {{TK_BEGIN, "\n"}, {TK_ID, "x"}, {TK_SEMI, "\n"}, {TK_END, NULL}}, 4, "BEGIN\nx;\nEND"},
+    {"S9", {{TK_ID, "a"}, {TK_ID, ""}, {TK_ID, "b"}}, 3, "a b"},
+    {"S10", {{TK_BEGIN, ""}, {TK_END, NULL}}, 2, "BEGINEND"},
+    {"S11", {{TK_ID, "\x0B"}, {TK_ID, "a"}}, 2, "\x0B a"},
+    {"S12", {{TK_LP, "z"}, {TK_ID, "b"}}, 2, "(z b"},
+};
+
+/* The count in a stream record. */
+static uint64_t count_of(const uint8_t *record) {
+    uint64_t count = 0;
+    for (int at = RECORD - 1; at > 0; at--) {
+        count = count << 8 | record[at];
+    }
+    return count;
+}
+
+/* Appends one token, and tells whether the answer and the record's count fit together. */
+static int append_one(uint8_t *record, uint8_t *out, size_t room, token given) {
+    static const uint8_t none[1] = {0};
+    const uint8_t *value = given.value ? (const uint8_t *)given.value : none;
+    size_t length = given.value ? strlen(given.value) : 0;
+    uint16_t flags = given.value ? given.token | VALUE_PRESENT : given.token;
+    uint64_t before = count_of(record);
+    uint64_t added = kinyandoma_append(record, RECORD, out, room, flags, value, length);
+    return added >> 32 == 0 && count_of(record) == before + added;
+}
+
+/* A whole stream in just the room that its text has. */
+static void stream(const stream_case *c) {
+    lent out;
+    uint8_t record[RECORD] = {1};
+    size_t room = strlen(c->text);
+    int done = 1;
+    prepare(&out);
+    for (size_t at = 0; at < c->count; at++) {
+        done &= append_one(record, out.bytes + GUARD, room, c->tokens[at]);
+    }
+    tell(c->name, done && count_of(record) == room && holds(&out, c->text, room));
+}
+
+/* ---- refused appends: section 3, in the order 1, 4, 2, 8 */
+
+static uint8_t long_value[MOST + 1];
+
+typedef struct {
+    const char *name;
+    uint8_t record[RECORD];
+    size_t record_length;
+    size_t room;
+    uint16_t token;
+    const uint8_t *value;
+    size_t value_length;
+    uint32_t number;
+    uint32_t place;
+} append_case;
+
+#define ID_VALUE (TK_ID | VALUE_PRESENT)
+#define BYTES(text) (const uint8_t *)(text), sizeof(text) - 1
+
+static const append_case APPENDS[] = {
+    {"append: a record of 8 bytes is 1", {1}, 8, 4, ID_VALUE, BYTES("a"), 1, 0},
+    {"append: a record of no bytes is 1", {1}, 0, 4, ID_VALUE, BYTES("a"), 1, 0},
+    {"append: a record that begins with 2 is 1", {2}, 9, 4, ID_VALUE, BYTES("a"), 1, 0},
+    {"append: a count past the output is 1", {1, 5}, 9, 4, ID_VALUE, BYTES("a"), 1, 0},
+    {"append: a count of 2^64 - 1 is 1", {1, 255, 255, 255, 255, 255, 255, 255, 255}, 9, 4, ID_VALUE, BYTES("a"), 1, 0},
+    {"append: 1 comes before 4", {2}, 9, 4, NO_TOKEN, BYTES(""), 1, 0},
+    {"append: an unknown token is 4", {1}, 9, 4, NO_TOKEN, BYTES(""), 4, 0},
+    {"append: a value without bit 15 is 4", {1}, 9, 4, TK_ID, BYTES("a"), 4, 0},
+    {"append: 4 comes before 2", {1}, 9, 4, NO_TOKEN | VALUE_PRESENT, BYTES("\xFF"), 4, 0},
+    {"append: a byte FF is 2", {1}, 9, 4, ID_VALUE, BYTES("ab\xFF"), 2, 2},
+    {"append: an overlong form is 2", {1}, 9, 4, ID_VALUE, BYTES("a\xC0\x80"), 2, 1},
+    {"append: a surrogate is 2", {1}, 9, 4, ID_VALUE, BYTES("\xED\xA0\x80"), 2, 0},
+    {"append: over 10FFFF is 2", {1}, 9, 4, ID_VALUE, BYTES("\xF4\x90\x80\x80"), 2, 0},
+    {"append: 65,537 bytes are 2, place 65,536", {1}, 9, 4, ID_VALUE, long_value, MOST + 1, 2, MOST},
+    {"append: 2 comes before 8", {1}, 9, 0, ID_VALUE, BYTES("a\xFF"), 2, 1},
+    {"append: no room is 8", {1}, 9, 2, ID_VALUE, BYTES("abc"), 8, 3},
+    {"append: no room for the space is 8", {0, 1}, 9, 4, ID_VALUE, BYTES("abc"), 8, 4},
+    {"append: a count at the end is no 1 but 8", {1, 4}, 9, 4, ID_VALUE, BYTES("abc"), 8, 3},
+};
+
+static void refused_append(const append_case *c) {
+    lent out, record;
+    prepare(&out);
+    prepare(&record);
+    memcpy(record.bytes + GUARD, c->record, RECORD);
+    uint64_t given = kinyandoma_append(record.bytes + GUARD, c->record_length, out.bytes + GUARD, c->room, c->token,
+                                       c->value, c->value_length);
+    int stays = holds(&out, "", 0) && holds(&record, c->record, RECORD);
+    tell(c->name, given == answer(c->number, c->place) && stays);
+}
+
+/* ---- trees */
+
+/* Section 6: DROP TYPE IF EXISTS geo; */
+#define CMD 0x53, 0x4E, 0x0A, 0, 0, 0, 1, 0, 0, 0, 0, 0, 0, 0, 0, 0
+#define DROP_TYPE 0x53, 0x4E, 0x3D, 0, 1, 0, 1, 0, 0, 0, 0, 0, 0, 0, 0, 0
+#define GEO 0x53, 0x4E, 0x04, 0, 0, 0, 0, 0, 0, 0, 0, 0, 3, 0, 0, 0
+
+static const uint8_t GOOD[] = {CMD, DROP_TYPE, GEO};
+static const char WRITTEN[] = "DROP TYPE IF EXISTS geo;";
+
+/* CHECK (103) with an empty RUN and the source `a--b`. */
+static const uint8_t CHECK[] = {0x53, 0x4E, 103,  0, 0, 0, 2, 0, 0, 0, 0, 0, 0, 0, 0, 0, /* two slots */
+                                0x53, 0x4E, 0x03, 0, 0, 0, 0, 0, 0, 0, 0, 0, 0, 0, 0, 0, /* RUN */
+                                0x53, 0x4E, 0x04, 0, 0, 0, 0, 0, 0, 0, 0, 0, 4, 0, 0, 0 /* TEXT */};
+
+static const uint8_t WRONG_MARK[] = {CMD, 0x53, 0x4F, 0x3D, 0, 1, 0, 1, 0, 0, 0, 0, 0, 0, 0, 0, 0, GEO};
+static const uint8_t WRONG_KIND[] = {CMD, GEO};
+static const uint8_t WRONG_FLAG[] = {CMD, 0x53, 0x4E, 0x3D, 0, 2, 0, 1, 0, 0, 0, 0, 0, 0, 0, 0, 0, GEO};
+static const uint8_t WRONG_COUNT[] = {CMD, 0x53, 0x4E, 0x3D, 0, 1, 0, 2, 0, 0, 0, 0, 0, 0, 0, 0, 0, GEO, GEO};
+static const uint8_t UNUSED_FIELD[] = {CMD, 0x53, 0x4E, 0x3D, 0, 1, 0, 1, 0, 0, 0, 0, 0, 1, 0, 0, 0, GEO};
+static const uint8_t UNKNOWN_TOKEN[] = {0x53, 0x4E, 0x03, 0, 0,        0, 1, 0, 0, 0, 0, 0, 0, 0, 0, 0,
+                                        0x53, 0x4E, 0x02, 0, NO_TOKEN, 0, 0, 0, 0, 0, 0, 0, 0, 0, 0, 0};
+static const uint8_t LEFT_OVER[] = {CMD, DROP_TYPE, GEO, GEO};
+static uint8_t too_large[MOST + 16];
+static uint8_t long_text[MOST + 1];
+
+typedef struct {
+    const char *name;
+    const uint8_t *tree;
+    size_t tree_length;
+    const uint8_t *text;
+    size_t text_length;
+    uint32_t number;
+    uint32_t place;
+} tree_case;
+
+static const tree_case TREES[] = {
+    {"tree: empty is 1", GOOD, 0, BYTES("geo"), 1, 0},
+    {"tree: 47 bytes are 1", GOOD, 47, BYTES("geo"), 1, 0},
+    {"tree: 65,552 bytes are 1", too_large, MOST + 16, BYTES(""), 1, 0},
+    {"tree: 1 comes before 2", GOOD, 47, BYTES("\xFF"), 1, 0},
+    {"tree: 65,537 bytes of text are 2, place 65,536", GOOD, 48, long_text, MOST + 1, 2, MOST},
+    {"tree: bad UTF-8 is 2", GOOD, 48, BYTES("ge\xC3"), 2, 2},
+    {"tree: a wrong mark is 3", WRONG_MARK, 48, BYTES("geo"), 3, 1},
+    {"tree: a wrong mark with bad UTF-8 is 2", WRONG_MARK, 48, BYTES("ge\xFF"), 2, 2},
+    {"tree: a kind that may not stand here is 4", WRONG_KIND, 32, BYTES("geo"), 4, 1},
+    {"tree: an undefined flag is 4", WRONG_FLAG, 48, BYTES("geo"), 4, 1},
+    {"tree: a wrong child count is 4", WRONG_COUNT, 64, BYTES("geo"), 4, 1},
+    {"tree: an unused field that is not zero is 4", UNUSED_FIELD, 48, BYTES("geo"), 4, 1},
+    {"tree: an unknown token is 4", UNKNOWN_TOKEN, 32, BYTES(""), 4, 1},
+    {"tree: a part past the text is 5", GOOD, 48, BYTES("ge"), 5, 2},
+    {"tree: a part that ends inside a character is 5", GOOD, 48, BYTES("ge\xC3\xA9"), 5, 2},
+    {"tree: a missing record is 7", GOOD, 32, BYTES("geo"), 7, 2},
+    {"tree: a record left over is 7", LEFT_OVER, 64, BYTES("geo"), 7, 3},
+};
+
+/* Measure and render both refuse, and nothing is written. */
+static void refused_tree(const tree_case *c) {
+    lent out;
+    prepare(&out);
+    uint64_t expected = answer(c->number, c->place);
+    uint64_t measured = kinyandoma_measure(c->tree, c->tree_length, c->text, c->text_length);
+    uint64_t rendered =
+        kinyandoma_render(c->tree, c->tree_length, c->text, c->text_length, out.bytes + GUARD, ROOM);
+    tell(c->name, measured == expected && rendered == expected && holds(&out, "", 0));
+}
+
+/* A good tree: measured, and rendered with just the room, with more, with one byte less and with none. */
+static void written_tree(const char *name, const uint8_t *tree, size_t tree_length, const char *text,
+                         const char *expected) {
+    size_t length = strlen(expected);
+    const size_t rooms[] = {length, ROOM, length - 1, 0};
+    const uint8_t *bytes = (const uint8_t *)text;
+    int done = kinyandoma_measure(tree, tree_length, bytes, strlen(text)) == answer(0, (uint32_t)length);
+    for (size_t at = 0; at < sizeof rooms / sizeof rooms[0]; at++) {
+        lent out;
+        prepare(&out);
+        int fits = rooms[at] >= length;
+        uint64_t given = kinyandoma_render(tree, tree_length, bytes, strlen(text), out.bytes + GUARD, rooms[at]);
+        done &= given == answer(fits ? 0 : 8, (uint32_t)length) && holds(&out, expected, fits ? length : 0);
+    }
+    tell(name, done);
+}
+
+/* One record with no part, flags or number. */
+static void put(uint8_t *tree, size_t index, uint8_t kind, uint8_t children) {
+    uint8_t *record = tree + 16 * index;
+    memset(record, 0, 16);
+    record[0] = 0x53;
+    record[1] = 0x4E;
+    record[2] = kind;
+    record[6] = children;
+}
+
+/* Section 6: "Depth 64 passes, 65 gives 6." FROM clauses (85) in brackets (90), `pairs` of them above a RUN, each with an
+ * empty LIST or a NONE behind; with `outer` one bracket more above all. Answers the number of records. */
+static size_t nested(uint8_t *tree, size_t pairs, int outer) {
+    enum { NONE = 0, LIST = 1, RUN = 3, FROM_CLAUSE = 85, SUB = 90 };
+    size_t next = 0;
+    if (outer) {
+        put(tree, next++, SUB, 2);
+    }
+    for (size_t at = 0; at < pairs; at++) {
+        put(tree, next++, FROM_CLAUSE, 2);
+        put(tree, next++, SUB, 2);
+    }
+    put(tree, next++, RUN, 0);
+    for (size_t at = 0; at < pairs; at++) {
+        put(tree, next++, NONE, 0);
+        put(tree, next++, LIST, 0);
+    }
+    if (outer) {
+        put(tree, next++, NONE, 0);
+    }
+    return next;
+}
+
+static void depths(void) {
+    enum { PAIRS = 32, RECORDS = 4 * PAIRS + 3 };
+    static uint8_t tree[16 * RECORDS];
+    const uint8_t *text = (const uint8_t *)"";
+    size_t records = nested(tree, PAIRS - 1, 1);
+    uint64_t measured = kinyandoma_measure(tree, 16 * records, text, 0);
+    tell("tree: depth 64 passes", measured >> 32 == 0);
+    records = nested(tree, PAIRS, 0);
+    measured = kinyandoma_measure(tree, 16 * records, text, 0);
+    tell("tree: depth 65 is 6", measured == answer(6, 2 * PAIRS));
+}
+
+int main(void) {
+    memset(long_value, 'x', sizeof long_value);
+    memset(long_text, 0xFF, sizeof long_text);
+    for (size_t at = 0; at < sizeof STREAMS / sizeof STREAMS[0]; at++) {
+        stream(&STREAMS[at]);
+    }
+    for (size_t at = 0; at < sizeof APPENDS / sizeof APPENDS[0]; at++) {
+        refused_append(&APPENDS[at]);
+    }
+    written_tree("tree: DROP TYPE IF EXISTS geo;, 24 bytes; room 23 is 8, place 24", GOOD, sizeof GOOD, "geo", WRITTEN);
+    written_tree("tree: a CHECK source with --", CHECK, sizeof CHECK, "a--b", "CHECK (a--b \n)");
+    for (size_t at = 0; at < sizeof TREES / sizeof TREES[0]; at++) {
+        refused_tree(&TREES[at]);
+    }
+    depths();
+    printf("%d passed, %d failed\n", passed, failed);
+    return failed != 0;
+}
