@@ -26,6 +26,7 @@ TREE_CASES=${TREE_CASES:-1000000}
 TREES_RENDERED=${TREES_RENDERED:-1000000}
 ENTRIES=${ENTRIES:-1000000}
 STREAMS=${STREAMS:-1000000}
+FUZZED=${FUZZED:-10000000}
 ENTRY_FAULTS=20000
 LISTED=1000
 LISTED_SEED=1
@@ -143,6 +144,9 @@ rt staticlib kinyandoma
 KINYANDOMA_LIB=$library build --package compare
 "$programs/compare" "$TOKENS" "$REFUSED" "$SEED"
 "$programs/compare" trees "$TREES_RENDERED" "$SEED"
+
+echo "the library's calls on whatever comes, between known bytes and beside closed pages:"
+"$programs/compare" fuzz "$FUZZED" "$SEED"
 
 echo "the library's texts cut back by the reading rule, and by the crate's lexer:"
 "$programs/compare" reading "$STREAMS" "$SEED"

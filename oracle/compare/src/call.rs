@@ -1,6 +1,6 @@
 //! One call of kinyandoma_append: what is lent, and what comes of it.
 
-use crate::guarded::Guarded;
+use crate::guarded::{Fence, Fences, Guarded, SHIFTS};
 use crate::hex::hex;
 #[cfg(feature = "selftest")]
 use crate::stand_in::kinyandoma_append;
@@ -29,12 +29,18 @@ pub struct Outcome {
 }
 
 impl Call {
-    /// What the library makes of it.
+    /// What the library makes of it, between known bytes.
     pub fn observed(&self) -> Outcome {
-        let shift = usize::from(self.token) % 16;
-        let mut record = Guarded::new(&self.record, shift);
-        let mut output = Guarded::new(&self.output, shift / 2);
-        let mut value = Guarded::new(&self.value, 15 - shift);
+        let shift = usize::from(self.token) % SHIFTS;
+        let shifts = [shift, shift / 2, SHIFTS - 1 - shift];
+        self.observed_within(shifts.map(Fence::Bytes))
+    }
+
+    /// What the library makes of it, with record, output and value lent so.
+    pub fn observed_within(&self, fences: Fences) -> Outcome {
+        let mut record = Guarded::new(&self.record, fences[0]);
+        let mut output = Guarded::new(&self.output, fences[1]);
+        let mut value = Guarded::new(&self.value, fences[2]);
         // Sound if the library keeps to the lent parts; the guards tell of small trespasses.
         let packed = unsafe {
             kinyandoma_append(

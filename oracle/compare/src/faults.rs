@@ -1,7 +1,7 @@
 //! Plants each fault in the stand-ins and sees that the comparison finds it.
 
 use crate::trees::stand_in::{exchange, faulty_entries};
-use crate::{compare_all, trees, Extent};
+use crate::{compare_all, fuzz, trees, Extent};
 use model::record::Record;
 use model::samples::Judged;
 use model::texts;
@@ -67,6 +67,8 @@ static PLANTED: AtomicUsize = AtomicUsize::new(NONE);
 /// Random values besides the list, for the faults of the whole-tree calls.
 const VALUES: u64 = 2_000;
 const SEED: u64 = 1;
+/// Calls of the fuzz run, for each fault.
+const FUZZED: u64 = 1_000_000;
 
 /// Whether the fault is to be made now.
 pub fn planted(fault: Fault) -> bool {
@@ -81,7 +83,9 @@ pub fn try_all(whole: bool) -> bool {
     let append = all_found(&[STREAM, APPEND].concat(), whole, &difference_in_append);
     let in_trees = |fault| difference_in_trees(fault, &listed);
     let trees = all_found(&[STREAM, TREES].concat(), whole, &in_trees);
-    append && trees && entries
+    let by_fuzz = [STREAM, APPEND, TREES].concat();
+    let fuzzed = all_found(&by_fuzz, whole, &difference_in_fuzz);
+    append && trees && entries && fuzzed
 }
 
 /// The difference that is found with a fault, if any is.
@@ -123,6 +127,11 @@ fn difference_in_trees(fault: usize, listed: &[Judged]) -> Option<String> {
     PLANTED.store(fault, Ordering::Relaxed);
     let compared = trees::compare_with(listed, VALUES, SEED);
     compared.err().map(|difference| difference.to_string())
+}
+
+fn difference_in_fuzz(fault: usize) -> Option<String> {
+    PLANTED.store(fault, Ordering::Relaxed);
+    fuzz::compare(FUZZED, SEED).err()
 }
 
 /// Whether the stored list alone finds each fault of each entry.

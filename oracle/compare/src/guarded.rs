@@ -1,43 +1,137 @@
-//! Bytes with known bytes before and after them.
+//! Lent bytes with known bytes around them, or beside a page that nobody may touch.
+
+use crate::pages::Pages;
 
 const GUARD: usize = 48;
+/// Starts are moved by less than this.
+pub const SHIFTS: usize = 16;
+
+/// What stands around a lent part.
+#[derive(Clone, Copy, Debug)]
+pub enum Fence {
+    /// Known bytes. The number moves the start, so that it stands at addresses of every kind.
+    Bytes(usize),
+    /// A page that nobody may touch ends just before the part.
+    PageBefore,
+    /// Such a page begins just behind the part.
+    PageAfter,
+}
+
+/// The fences of the three parts that a call is lent, at most.
+pub type Fences = [Fence; 3];
 
 pub struct Guarded {
-    bytes: Vec<u8>,
+    memory: Memory,
     before: usize,
     length: usize,
 }
 
+enum Memory {
+    Heap(Vec<u8>),
+    Pages(Pages),
+}
+
 impl Guarded {
-    /// `shift` moves the start, so that it stands at addresses of every kind.
-    pub fn new(inner: &[u8], shift: usize) -> Guarded {
-        let before = GUARD + shift;
+    pub fn new(inner: &[u8], fence: Fence) -> Guarded {
         let length = inner.len();
-        let mut bytes: Vec<u8> = (0..before).map(guard_byte).collect();
-        bytes.extend_from_slice(inner);
-        bytes.extend((before + length..before + length + GUARD).map(guard_byte));
-        Guarded {
-            bytes,
+        let (memory, before) = match fence {
+            Fence::Bytes(shift) => {
+                let before = GUARD + shift;
+                (Memory::Heap(vec![0; before + length + GUARD]), before)
+            }
+            Fence::PageBefore => (Memory::Pages(Pages::of(length)), 0),
+            Fence::PageAfter => {
+                let pages = Pages::of(length);
+                let before = pages.bytes().len() - length;
+                (Memory::Pages(pages), before)
+            }
+        };
+        let mut guarded = Guarded {
+            memory,
             before,
             length,
+        };
+        guarded.fill(inner);
+        guarded
+    }
+
+    /// The bytes themselves, and the known ones around them.
+    fn fill(&mut self, inner: &[u8]) {
+        let (before, length) = (self.before, self.length);
+        let places = self.guards();
+        let bytes = self.memory.bytes_mut();
+        bytes[before..before + length].copy_from_slice(inner);
+        for place in places {
+            bytes[place] = guard_byte(place);
         }
     }
 
+    /// The places of the known bytes: as many as there is memory for.
+    fn guards(&self) -> impl Iterator<Item = usize> {
+        let first = self.before.saturating_sub(GUARD + SHIFTS);
+        let after = self.before + self.length;
+        let last = self.memory.bytes().len().min(after + GUARD);
+        (first..self.before).chain(after..last)
+    }
+
     pub fn start(&mut self) -> *mut u8 {
-        self.bytes[self.before..].as_mut_ptr()
+        self.memory.bytes_mut()[self.before..].as_mut_ptr()
     }
 
     pub fn inner(&self) -> &[u8] {
-        &self.bytes[self.before..self.before + self.length]
+        &self.memory.bytes()[self.before..self.before + self.length]
     }
 
     pub fn guards_whole(&self) -> bool {
-        let whole = |place: usize| self.bytes[place] == guard_byte(place);
-        let after = self.before + self.length;
-        (0..self.before).all(whole) && (after..self.bytes.len()).all(whole)
+        let bytes = self.memory.bytes();
+        self.guards().all(|place| bytes[place] == guard_byte(place))
+    }
+}
+
+impl Memory {
+    fn bytes(&self) -> &[u8] {
+        match self {
+            Memory::Heap(bytes) => bytes,
+            Memory::Pages(pages) => pages.bytes(),
+        }
+    }
+
+    fn bytes_mut(&mut self) -> &mut [u8] {
+        match self {
+            Memory::Heap(bytes) => bytes,
+            Memory::Pages(pages) => pages.bytes_mut(),
+        }
     }
 }
 
 fn guard_byte(place: usize) -> u8 {
     0xA5 ^ place as u8
+}
+
+#[cfg(test)]
+mod tests {
+    use super::*;
+
+    const FENCES: [Fence; 4] = [
+        Fence::Bytes(0),
+        Fence::Bytes(15),
+        Fence::PageBefore,
+        Fence::PageAfter,
+    ];
+
+    #[test]
+    fn a_changed_byte_beside_the_part_is_seen() {
+        for fence in FENCES {
+            let mut guarded = Guarded::new(b"lent", fence);
+            assert!(guarded.guards_whole());
+            assert_eq!(guarded.inner(), b"lent");
+            let places: Vec<usize> = guarded.guards().collect();
+            assert!(places.len() >= GUARD);
+            for place in places {
+                guarded.memory.bytes_mut()[place] ^= 1;
+                assert!(!guarded.guards_whole());
+                guarded.memory.bytes_mut()[place] ^= 1;
+            }
+        }
+    }
 }

@@ -1,10 +1,13 @@
 //! Compares the library's calls with the crate and with the rules of their refusals.
 
 mod call;
+mod crash;
 #[cfg(feature = "selftest")]
 mod faults;
+mod fuzz;
 mod guarded;
 mod hex;
+mod pages;
 mod readable;
 mod refusals;
 mod report;
@@ -21,7 +24,8 @@ use tokens::random::Random;
 
 const USAGE: &str = "usage: compare [TOKENS [REFUSED-CALLS [SEED]]]
        compare trees COUNT SEED
-       compare reading COUNT SEED";
+       compare reading COUNT SEED
+       compare fuzz CALLS SEED";
 const DEFAULT_CALLS: u64 = 1_000_000;
 const DEFAULT_SEED: u64 = 1;
 
@@ -39,6 +43,7 @@ fn main() {
     let told = match words.first().map(String::as_str) {
         Some("trees") => compare_random(&words[1..], &trees::compare),
         Some("reading") => compare_random(&words[1..], &readable::compare),
+        Some("fuzz") => compare_random(&words[1..], &fuzz::compare),
         _ => {
             let extent = extent(&words).unwrap_or_else(|| fail());
             compare_all(&extent, true).map_err(|difference| difference.to_string())

@@ -145,7 +145,7 @@ fn rooms_of(token: &Token, spaced: bool, counts: &mut Counts) -> Checked {
 }
 
 /// Any mixture of faults, or none.
-fn random_call(random: &mut Random) -> Call {
+pub fn random_call(random: &mut Random) -> Call {
     let token = random_flags(random);
     let value = random_bytes(random);
     let spaced = random.one_in(2);

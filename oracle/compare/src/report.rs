@@ -1,6 +1,7 @@
 //! Counts of answers, and the first difference.
 
 use crate::call::{Call, Outcome};
+use crate::guarded::Fences;
 use std::fmt;
 
 /// How often each answer number came.
@@ -22,6 +23,10 @@ impl Counts {
         self.by_number.iter().sum()
     }
 
+    pub fn by_number(&self) -> &[u64; 9] {
+        &self.by_number
+    }
+
     /// Runs the call, and counts it if it comes out as expected.
     pub fn check(
         &mut self,
@@ -29,7 +34,27 @@ impl Counts {
         call: &Call,
         expected: Outcome,
     ) -> Result<Outcome, Box<Difference>> {
-        let observed = call.observed();
+        self.settle(part, call, expected, call.observed())
+    }
+
+    /// The same, with the parts lent so.
+    pub fn check_within(
+        &mut self,
+        fences: Fences,
+        part: &'static str,
+        call: &Call,
+        expected: Outcome,
+    ) -> Result<Outcome, Box<Difference>> {
+        self.settle(part, call, expected, call.observed_within(fences))
+    }
+
+    fn settle(
+        &mut self,
+        part: &'static str,
+        call: &Call,
+        expected: Outcome,
+        observed: Outcome,
+    ) -> Result<Outcome, Box<Difference>> {
         if observed != expected {
             return Err(Box::new(Difference {
                 part,

@@ -5,15 +5,17 @@ mod report;
 #[cfg(feature = "selftest")]
 pub mod stand_in;
 
+use crate::guarded::Fences;
+pub use call::by_bytes;
 use call::{Call, Lent};
 use model::check::check;
 use model::damage::{damage, Case};
 use model::samples::{sample, Judged};
 use model::texts;
-pub use report::{Counts, Difference};
+pub use report::{answers, Counts, Difference};
 use tokens::random::Random;
 
-type Checked = Result<(), Box<Difference>>;
+pub type Checked = Result<(), Box<Difference>>;
 
 /// One value in so many is followed by damaged copies of its tree, so many each.
 const DAMAGED: usize = 4;
@@ -36,11 +38,13 @@ pub fn compare_with<'a>(
     let mut random = Random::new(seed);
     let mut counts = Counts::default();
     for judged in listed {
-        hold("a listed tree", judged, &mut random, &mut counts)?;
+        let fences = by_bytes(random.word() as usize);
+        hold("a listed tree", judged, fences, &mut random, &mut counts)?;
     }
     for _ in 0..count {
         let judged = sample(&mut random).judged();
-        hold("a random value", &judged, &mut random, &mut counts)?;
+        let fences = by_bytes(random.word() as usize);
+        hold("a random value", &judged, fences, &mut random, &mut counts)?;
         if random.one_in(DAMAGED) {
             hold_damaged(&judged.case, &mut random, &mut counts)?;
         }
@@ -57,15 +61,23 @@ fn hold_damaged(case: &Case, random: &mut Random, counts: &mut Counts) -> Checke
         if refusal.0 > 0 {
             let expected = Err(refusal);
             let judged = Judged { case, expected };
-            hold("a damaged tree", &judged, random, counts)?;
+            let fences = by_bytes(random.word() as usize);
+            hold("a damaged tree", &judged, fences, random, counts)?;
         }
     }
     Ok(())
 }
 
-fn hold(part: &'static str, judged: &Judged, random: &mut Random, counts: &mut Counts) -> Checked {
+/// All calls for one tree, with the parts lent so.
+pub fn hold(
+    part: &'static str,
+    judged: &Judged,
+    fences: Fences,
+    random: &mut Random,
+    counts: &mut Counts,
+) -> Checked {
     counts.tree(part, judged);
-    let mut lent = Lent::new(&judged.case, random.word() as usize);
+    let mut lent = Lent::new(&judged.case, fences);
     for call in calls(judged, random) {
         let observed = lent.observed(&call);
         let expected = call.expected(judged);

@@ -1,6 +1,6 @@
 //! One call: what is lent, and what comes of it.
 
-use crate::guarded::Guarded;
+use crate::guarded::{Fence, Fences, Guarded, SHIFTS};
 #[cfg(feature = "selftest")]
 use crate::trees::stand_in::{kinyandoma_measure, kinyandoma_render};
 use calls::Answer;
@@ -11,8 +11,6 @@ use model::samples::Judged;
 
 /// The number of an output that is too short.
 const NO_ROOM: u32 = 8;
-/// Addresses are tried modulo this.
-const ALIGNMENT: usize = 16;
 
 /// A call of the one or the other.
 #[derive(Clone)]
@@ -31,33 +29,38 @@ pub struct Outcome {
     pub rest_untouched: bool,
 }
 
-/// A tree and its text, with known bytes around them.
+/// A tree and its text, with what stands around them and around an output.
 pub struct Lent<'a> {
     case: &'a Case,
     tree: Guarded,
     text: Guarded,
-    shift: usize,
+    output: Fence,
+}
+
+/// Known bytes, each part moved by another digit of the shift.
+pub fn by_bytes(shift: usize) -> Fences {
+    let digit = |power: u32| Fence::Bytes(shift / SHIFTS.pow(power) % SHIFTS);
+    [digit(0), digit(1), digit(2)]
 }
 
 impl Lent<'_> {
-    /// `shift` moves all lent parts, so that they stand at addresses of every kind.
-    pub fn new(case: &Case, shift: usize) -> Lent<'_> {
+    /// The fences are those of the tree, the text and the output.
+    pub fn new(case: &Case, fences: Fences) -> Lent<'_> {
         Lent {
             case,
-            tree: Guarded::new(&case.tree, shift % ALIGNMENT),
-            text: Guarded::new(&case.text, shift / ALIGNMENT % ALIGNMENT),
-            shift,
+            tree: Guarded::new(&case.tree, fences[0]),
+            text: Guarded::new(&case.text, fences[1]),
+            output: fences[2],
         }
     }
 
     /// What the library makes of it.
     pub fn observed(&mut self, call: &Call) -> Outcome {
-        let shift = self.shift / ALIGNMENT / ALIGNMENT % ALIGNMENT;
         let before: &[u8] = match call {
             Call::Measure => &[],
             Call::Render(before) => before,
         };
-        let mut output = Guarded::new(before, shift);
+        let mut output = Guarded::new(before, self.output);
         let (tree_len, text_len) = (self.case.tree.len(), self.case.text.len());
         let (tree, text) = (self.tree.start(), self.text.start());
         // Sound if the library keeps to the lent parts; the guards tell of small trespasses.

@@ -10,8 +10,8 @@ use model::samples::Judged;
 use std::collections::{BTreeMap, BTreeSet};
 use std::fmt;
 
-/// One more than the last number of an answer.
-const NUMBERS: usize = 9;
+/// How often each number of an answer came.
+pub type Numbers = [u64; 9];
 
 /// What was compared without a difference.
 #[derive(Default)]
@@ -20,8 +20,8 @@ pub struct Counts {
     /// Admitted trees with a RUN where a kind from 32 up may stand.
     with_runs: u64,
     kinds: BTreeMap<u16, Seen>,
-    measured: [u64; NUMBERS],
-    rendered: [u64; NUMBERS],
+    measured: Numbers,
+    rendered: Numbers,
 }
 
 /// A kind in admitted trees.
@@ -60,6 +60,27 @@ impl Counts {
         self.with_runs += u64::from(run_for_kind);
     }
 
+    /// How often each of the two calls gave each answer.
+    pub fn by_call(&self) -> [(&'static str, &Numbers); 2] {
+        [("measure", &self.measured), ("render", &self.rendered)]
+    }
+
+    /// How many calls were made.
+    pub fn calls(&self) -> u64 {
+        self.measured.iter().chain(&self.rendered).sum()
+    }
+
+    /// How many trees of each part, and how many kinds stood in admitted ones.
+    pub fn told_parts(&self) -> String {
+        let parts = self.parts.iter();
+        let parts = parts.map(|(part, count)| format!("{part}: {} times\n", told(*count)));
+        let kinds = self.kinds.len();
+        format!(
+            "{}kinds in admitted trees: {kinds}",
+            parts.collect::<String>()
+        )
+    }
+
     /// Counts the answer.
     pub fn call(&mut self, call: &Call, outcome: &Outcome) {
         let numbers = match call {
@@ -89,17 +110,21 @@ impl fmt::Display for Counts {
                 seen.flags.len()
             )?;
         }
-        writeln!(f, "\n| Call | Calls | 0 | 1 | 2 | 3 | 4 | 5 | 6 | 7 | 8 |")?;
-        writeln!(f, "|---|---|---|---|---|---|---|---|---|---|---|")?;
-        for (call, numbers) in [("measure", &self.measured), ("render", &self.rendered)] {
-            write!(f, "| {call} | {} |", told(numbers.iter().sum()))?;
-            for number in numbers {
-                write!(f, " {} |", told(*number))?;
-            }
-            writeln!(f)?;
-        }
-        Ok(())
+        writeln!(f, "\n{}", answers(&self.by_call()))
     }
+}
+
+/// A table of how often each call gave each answer.
+pub fn answers(calls: &[(&str, &Numbers)]) -> String {
+    let mut table = "| Call | Calls | 0 | 1 | 2 | 3 | 4 | 5 | 6 | 7 | 8 |\n".to_string();
+    table += "|---|---|---|---|---|---|---|---|---|---|---|";
+    for (call, numbers) in calls {
+        let all = numbers.iter().sum();
+        let cells = [all].into_iter().chain(numbers.iter().copied());
+        let cells: Vec<String> = cells.map(told).collect();
+        table += &format!("\n| {call} | {} |", cells.join(" | "));
+    }
+    table
 }
 
 fn named(kind: u16) -> String {

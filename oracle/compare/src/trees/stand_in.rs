@@ -2,6 +2,7 @@
 //! planted in them.
 
 use crate::faults::{planted, Fault};
+use crate::fuzz::SOURCES;
 use crate::stand_in;
 use entries::faults::faulty;
 use entries::interpret::{node, Corners, CORNERS};
@@ -15,14 +16,6 @@ use std::slice::{from_raw_parts, from_raw_parts_mut};
 use std::sync::{LazyLock, RwLock};
 use tokens::token::Token;
 use turso_parser::token::TokenType::TK_COMMA;
-
-/// The definition, as it stands when this is built.
-const SOURCES: [&str; 4] = [
-    include_str!("../../../../crates/spelling/specs/Token.antt"),
-    include_str!("../../../../crates/grammar/specs/Kind.antt"),
-    include_str!("../../../../crates/grammar/specs/Shape.antt"),
-    include_str!("../../../../crates/grammar/specs/Grammar.antt"),
-];
 
 static GRAMMAR: LazyLock<RwLock<Grammar>> =
     LazyLock::new(|| RwLock::new(read(SOURCES).expect("entries that can be read")));

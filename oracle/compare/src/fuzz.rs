@@ -1,0 +1,105 @@
+//! All three calls on whatever comes: good trees, damaged ones, bytes of any sort, odd rooms and records, lent between known
+//! bytes and beside pages that nobody may touch. Every answer and every byte is held to the model, and to the entries of the
+//! definition with the crate's stream.
+
+mod appends;
+mod judge;
+mod mutate;
+mod pool;
+
+use crate::crash;
+use crate::guarded::{Fence, Fences, SHIFTS};
+use crate::report;
+use crate::trees;
+use judge::Judge;
+#[cfg(feature = "selftest")]
+pub use judge::SOURCES;
+use pool::Pool;
+use std::fmt;
+use tokens::random::Random;
+
+/// What was called without a difference.
+#[derive(Default)]
+pub struct Counts {
+    appended: report::Counts,
+    trees: trees::Counts,
+    /// Lent parts between known bytes, behind a page, before a page.
+    fences: [u64; 3],
+}
+
+/// At least so many calls.
+pub fn compare(calls: u64, seed: u64) -> Result<Counts, String> {
+    crash::watch();
+    let judge = Judge::new()?;
+    let mut random = Random::new(seed);
+    let mut counts = Counts::default();
+    let mut pool = Pool::default();
+    while counts.calls() < calls {
+        crash::at(counts.calls());
+        match random.one_in(3) {
+            true => tree(&judge, &mut pool, &mut random, &mut counts)?,
+            false => appends::compare(&mut random, &mut counts)?,
+        }
+    }
+    Ok(counts)
+}
+
+/// One tree, and all calls that are made for it.
+fn tree(
+    judge: &Judge,
+    pool: &mut Pool,
+    random: &mut Random,
+    counts: &mut Counts,
+) -> Result<(), String> {
+    let (part, case) = pool.drawn(random);
+    let judged = judge.judged(case)?;
+    pool.keep(random, &judged);
+    let fences = counts.fences(random);
+    let held = trees::hold(part, &judged, fences, random, &mut counts.trees);
+    held.map_err(|difference| difference.to_string())
+}
+
+impl Counts {
+    fn calls(&self) -> u64 {
+        self.appended.total() + self.trees.calls()
+    }
+
+    /// Draws how three parts are lent.
+    fn fences(&mut self, random: &mut Random) -> Fences {
+        [(); 3].map(|()| self.fence(random))
+    }
+
+    fn fence(&mut self, random: &mut Random) -> Fence {
+        let drawn = match random.below(4) {
+            0 => Fence::Bytes(random.below(SHIFTS)),
+            1 => Fence::PageBefore,
+            _ => Fence::PageAfter,
+        };
+        // The faulty calls of the self-test write beyond what is lent, and the known bytes are to tell.
+        let fence = match cfg!(feature = "selftest") {
+            true => Fence::Bytes(random.below(SHIFTS)),
+            false => drawn,
+        };
+        self.fences[sort(fence)] += 1;
+        fence
+    }
+}
+
+fn sort(fence: Fence) -> usize {
+    match fence {
+        Fence::Bytes(_) => 0,
+        Fence::PageBefore => 1,
+        Fence::PageAfter => 2,
+    }
+}
+
+impl fmt::Display for Counts {
+    fn fmt(&self, f: &mut fmt::Formatter<'_>) -> fmt::Result {
+        writeln!(f, "{}", self.trees.told_parts())?;
+        let [bytes, before, after] = self.fences;
+        writeln!(f, "lent between known bytes: {bytes}, with a closed page before: {before}, with one behind: {after}")?;
+        let [measure, render] = self.trees.by_call();
+        let append = ("append", self.appended.by_number());
+        write!(f, "\n{}", trees::answers(&[append, measure, render]))
+    }
+}
