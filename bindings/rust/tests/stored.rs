@@ -96,3 +96,19 @@ fn streams_are_written_as_stored() {
         assert_eq!(line, case.expected, "{:?}", case.tokens);
     }
 }
+
+#[test]
+fn calls_from_several_threads_do_not_meet() {
+    const THREADS: usize = 4;
+    let stored = trees("replay_text");
+    let replay = || {
+        for tree in &stored {
+            assert_eq!(line(tree), tree.expected, "tree {}", hex(&tree.tree));
+        }
+    };
+    std::thread::scope(|scope| {
+        for _ in 0..THREADS {
+            scope.spawn(replay);
+        }
+    });
+}
