@@ -21,47 +21,49 @@ const TREE: [u8; 48] = [
 const TEXT: &[u8] = b"geo";
 const WRITTEN: &str = "DROP TYPE IF EXISTS geo;";
 
+/// S1 to S12.
+const STREAMS: [(&[Given], &str); 12] = [
+    (&[], ""),
+    (&[id("a"), bare(Token::TK_COMMA), id("b")], "a, b"),
+    (&[id("a"), bare(Token::TK_DOT), id("b")], "a.b"),
+    (
+        &[id("f"), bare(Token::TK_LP), id("x"), bare(Token::TK_RP)],
+        "f (x)",
+    ),
+    (
+        &[
+            id("INT"),
+            bare(Token::TK_LBRACKET),
+            bare(Token::TK_RBRACKET),
+        ],
+        "INT[]",
+    ),
+    (&[bare(Token::TK_BLOB), id("a")], "X''a"),
+    (
+        &[id("a"), bare(Token::TK_BLOB), bare(Token::TK_COMMA)],
+        "a X'',",
+    ),
+    (
+        &[
+            (Token::TK_BEGIN, Some("\n")),
+            id("x"),
+            (Token::TK_SEMI, Some("\n")),
+            bare(Token::TK_END),
+        ],
+        "BEGIN\nx;\nEND",
+    ),
+    (&[id("a"), id(""), id("b")], "a b"),
+    (
+        &[(Token::TK_BEGIN, Some("")), bare(Token::TK_END)],
+        "BEGINEND",
+    ),
+    (&[id("\x0B"), id("a")], "\x0B a"),
+    (&[(Token::TK_LP, Some("z")), id("b")], "(z b"),
+];
+
 #[test]
 fn streams_s1_to_s12() {
-    let cases: [(&[Given], &str); 12] = [
-        (&[], ""),
-        (&[id("a"), bare(Token::TK_COMMA), id("b")], "a, b"),
-        (&[id("a"), bare(Token::TK_DOT), id("b")], "a.b"),
-        (
-            &[id("f"), bare(Token::TK_LP), id("x"), bare(Token::TK_RP)],
-            "f (x)",
-        ),
-        (
-            &[
-                id("INT"),
-                bare(Token::TK_LBRACKET),
-                bare(Token::TK_RBRACKET),
-            ],
-            "INT[]",
-        ),
-        (&[bare(Token::TK_BLOB), id("a")], "X''a"),
-        (
-            &[id("a"), bare(Token::TK_BLOB), bare(Token::TK_COMMA)],
-            "a X'',",
-        ),
-        (
-            &[
-                (Token::TK_BEGIN, Some("\n")),
-                id("x"),
-                (Token::TK_SEMI, Some("\n")),
-                bare(Token::TK_END),
-            ],
-            "BEGIN\nx;\nEND",
-        ),
-        (&[id("a"), id(""), id("b")], "a b"),
-        (
-            &[(Token::TK_BEGIN, Some("")), bare(Token::TK_END)],
-            "BEGINEND",
-        ),
-        (&[id("\x0B"), id("a")], "\x0B a"),
-        (&[(Token::TK_LP, Some("z")), id("b")], "(z b"),
-    ];
-    for (tokens, expected) in cases {
+    for (tokens, expected) in STREAMS {
         let (mut stream, mut out) = (Stream::new(), Vec::new());
         for (token, value) in tokens {
             stream.append_to_vec(*token, *value, &mut out).unwrap();
