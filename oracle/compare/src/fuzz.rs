@@ -97,7 +97,7 @@ impl fmt::Display for Counts {
     fn fmt(&self, f: &mut fmt::Formatter<'_>) -> fmt::Result {
         writeln!(f, "{}", self.trees.told_parts())?;
         let [bytes, before, after] = self.fences;
-        writeln!(f, "lent between known bytes: {bytes}, with a closed page before: {before}, with one behind: {after}")?;
+        writeln!(f, "parts lent between known bytes: {bytes}, with a closed page before: {before}, with one behind: {after}")?;
         let [measure, render] = self.trees.by_call();
         let append = ("append", self.appended.by_number());
         write!(f, "\n{}", trees::answers(&[append, measure, render]))

@@ -1,0 +1,126 @@
+/* The three calls under libFuzzer, with an output, a tree and a text in memory of just their lengths.
+ *
+ * The library is not instrumented: AddressSanitizer sees what it copies through memcpy, memmove and memset, and libFuzzer
+ * does not see its branches. Instead every answer is told to libFuzzer as a counter, so that it keeps the inputs that are
+ * answered in a new way. There is no oracle here: what is held is what the header says of any input. */
+#include "kinyandoma.h"
+
+#include <stdlib.h>
+#include <string.h>
+
+enum {
+    RECORD = 9,
+    HEAD = 6,           /* bytes of an input before tree and text, or record and value */
+    BEFORE = 0xEE,      /* what stands in an output before a call */
+    PLACES = 4096,      /* places told apart */
+    NUMBERS = 9,        /* numbers of an answer */
+    LONGEST = 1 << 20,  /* longer texts are measured only */
+    NO_ROOM = 8
+};
+
+__attribute__((used, section("__libfuzzer_extra_counters"))) static uint8_t counters[2][NUMBERS][PLACES];
+
+/* Ends the program where something does not hold. */
+static void hold(int so) {
+    if (!so) {
+        abort();
+    }
+}
+
+static uint32_t number(uint64_t answer) {
+    return (uint32_t)(answer >> 32);
+}
+
+static uint32_t place(uint64_t answer) {
+    return (uint32_t)answer;
+}
+
+static void tell(int call, uint64_t answer) {
+    hold(number(answer) < NUMBERS);
+    counters[call][number(answer)][place(answer) % PLACES] = 1;
+}
+
+/* A copy in memory of just its length; of one byte where there is none, since a pointer must not be null. */
+static uint8_t *copied(const uint8_t *bytes, size_t length) {
+    uint8_t *copy = malloc(length ? length : 1);
+    hold(copy != NULL);
+    memcpy(copy, bytes, length);
+    return copy;
+}
+
+static uint8_t *output(size_t length) {
+    uint8_t *out = malloc(length ? length : 1);
+    hold(out != NULL);
+    memset(out, BEFORE, length);
+    return out;
+}
+
+/* Whether all bytes from one place on are as before. */
+static int untouched(const uint8_t *out, size_t from, size_t length) {
+    while (from < length && out[from] == BEFORE) {
+        from++;
+    }
+    return from >= length;
+}
+
+/* Render agrees with measure, in this room. */
+static void rendered(const uint8_t *tree, size_t tree_len, const uint8_t *text, size_t text_len, uint64_t measured,
+                     size_t room) {
+    uint8_t *out = output(room);
+    uint64_t answer = kinyandoma_render(tree, tree_len, text, text_len, out, room);
+    int fits = number(measured) == 0 && place(measured) <= room;
+    if (number(measured) == 0 && !fits) {
+        hold(answer == ((uint64_t)NO_ROOM << 32 | place(measured)));
+    } else {
+        hold(answer == measured);
+    }
+    hold(untouched(out, fits ? place(measured) : 0, room));
+    free(out);
+}
+
+static void tree_calls(const uint8_t *data, size_t size, size_t split, size_t room) {
+    size_t tree_len = split < size ? split : size;
+    uint8_t *tree = copied(data, tree_len);
+    uint8_t *text = copied(data + tree_len, size - tree_len);
+    uint64_t measured = kinyandoma_measure(tree, tree_len, text, size - tree_len);
+    tell(0, measured);
+    size_t length = number(measured) == 0 ? place(measured) : 0;
+    if (length <= LONGEST) {
+        rendered(tree, tree_len, text, size - tree_len, measured, length);
+        rendered(tree, tree_len, text, size - tree_len, measured, room);
+        hold(memcmp(tree, data, tree_len) == 0 && memcmp(text, data + tree_len, size - tree_len) == 0);
+    }
+    free(tree);
+    free(text);
+}
+
+static void append_call(const uint8_t *data, size_t size, uint16_t token, size_t room) {
+    size_t record_len = size < RECORD ? size : RECORD;
+    uint8_t *record = copied(data, record_len);
+    uint8_t *value = copied(data + record_len, size - record_len);
+    uint8_t *out = output(room);
+    uint64_t answer = kinyandoma_append(record, record_len, out, room, token, value, size - record_len);
+    tell(1, answer);
+    if (number(answer) != 0) {
+        hold(untouched(out, 0, room) && memcmp(record, data, record_len) == 0);
+    }
+    hold(memcmp(value, data + record_len, size - record_len) == 0);
+    free(record);
+    free(value);
+    free(out);
+}
+
+/* An input: which call, three numbers of a byte or two, and the bytes that are lent. */
+int LLVMFuzzerTestOneInput(const uint8_t *data, size_t size) {
+    if (size < HEAD) {
+        return 0;
+    }
+    uint16_t word = (uint16_t)(data[1] | data[2] << 8);
+    size_t room = data[3] | (size_t)(data[4] & 3) << 8;
+    if (data[0] & 1) {
+        append_call(data + HEAD, size - HEAD, word, room);
+    } else {
+        tree_calls(data + HEAD, size - HEAD, word, room);
+    }
+    return 0;
+}

@@ -1,0 +1,30 @@
+#!/usr/bin/env bash
+# Runs libFuzzer on the three calls for so many seconds (300), beginning with the trees of the gate. It needs clang with its
+# runtime, and python3. An input that fails stays in oracle/target/made.
+set -euo pipefail
+seconds=${1:-300}
+cd "$(dirname "${BASH_SOURCE[0]}")/../.."
+library=${KINYANDOMA_LIB:-target/staticlib}/libkinyandoma.a
+made=$(mktemp -d)
+trap 'rm -r "$made"' EXIT
+mkdir -p "$made/corpus" oracle/target/made
+
+# Each stored tree of up to 2,000 bytes, as the input that lends it.
+python3 - crates/replay_text/stdin "$made/corpus" << 'EOF'
+import struct, sys
+data, at, name = open(sys.argv[1], "rb").read(), 0, 0
+while at < len(data):
+    tree, text = struct.unpack_from("<II", data, at)
+    lent = data[at + 8:at + 8 + tree + text]
+    at += 8 + tree + text
+    name += 1
+    if len(lent) <= 2000:
+        head = struct.pack("<BHBBB", 0, tree, 40, 0, 0)
+        open(f"{sys.argv[2]}/{name}", "wb").write(head + lent)
+EOF
+echo "inputs to begin with: $(ls "$made/corpus" | wc -l)"
+
+"${CLANG:-clang}" -std=c11 -Wall -Wextra -Werror -O1 -g -fsanitize=fuzzer,address -Iinclude \
+    oracle/libfuzzer/calls.c "$library" -o "$made/calls"
+"$made/calls" -max_total_time="$seconds" -max_len=4096 -timeout=5 -print_final_stats=1 \
+    -artifact_prefix=oracle/target/made/ "$made/corpus" 2>&1 | grep -E "ERROR|Test unit|stat::|DONE|SUMMARY"
