@@ -1,13 +1,13 @@
 -- Laws of the whole-tree calls: what each way through them comes to, that no two outcomes satisfy a contract, and that a place is small.
-use Prim.Native.Nat.{ℕ, _^_, _≤_, _<_}
+use Prim.Native.Nat.{ℕ, _+_, _^_, _≤_, _<_}
 use native.Mathlib.Omega.{arith}
 use native.Mathlib.Nat.{zero-add}
 use mathlib.Core.Path.{_≡_, refl, _∙_, ap, sym}
-use mathlib.Core.List.{List}
+use mathlib.Core.List.{List, _++_}
 use mathlib.Core.Bool.{Bool, true, false, not, cond}
 use lib.Dec.{eqb, ltb}
-use lib.ListN.{length, getD}
-use lib.Seq.{sets-eq}
+use lib.ListN.{length, getD, take, drop}
+use lib.Seq.{sets, sets-eq, length-sets, take-length, take-append-seam}
 use borrow.Author.Tests.{eqb-true, eq-eqb, ne-eqb, lt-ltb, le-ltb, ltb-false}
 use Rattle.spelling.specs.Table.{bytes}
 use Rattle.stream.specs.Sink.{State, most}
@@ -24,7 +24,7 @@ use Rattle.pen.specs.Emit.{fresh, text-counted, text-stored}
 use Rattle.render.specs.declared.Outcome.{Outcome}
 use Rattle.render.specs.declared.Outcome.the-variants.{Done, Refused, NoRoom}
 use Rattle.render.specs.Render.{textFrom, refuses, measured, rendered, outputAfter, Measures, Renders, numberOf, placeOf}
-use Rattle.render.specs.Steps.{counted, Writes}
+use Rattle.render.specs.Steps.{counted, Writes, Drafted, Drafts}
 
 -- ---- the tokens of a tree, written by a fresh sink, are its text
 pub writes : (t x w out : List ℕ) (st : State) → w ≡ bytes → length out ≤ most → st ≡ emit w (fresh, out) (tokensOf (source t x)) → Writes t x out (st .0 .at) (st .1)
@@ -56,6 +56,26 @@ module _ {t x : List ℕ} {a : Answer} (c : Checks t x a) (m : ℕ) (is : m ≡ 
       let q : n ≡ l = e ∙ count-fits 0 l (omega arith) ∙ zero-add l in
       record { answer = a; checks = c; answers = rw (← is, eq-eqb m 0 z, q) }
 
+-- ---- the draft, and the copy of it
+module _ {t x : List ℕ} where
+  pub draft-refused : {a : Answer} {d : List ℕ} → Measures t x (Refused a) → Drafts t x (Refused a) d
+  draft-refused m = record { measures = m; drafted = λ n e. let z : _≡_ {A = ℕ} 0 1 = cc in absurd (omega arith) }
+
+  pub draft-done : {n : ℕ} (d : List ℕ) {d′ : List ℕ} → Measures t x (Done n) → d′ ≡ sets d 0 (textFrom t x) → Drafts t x (Done n) d′
+  draft-done {n} d {d′} m e = record { measures = m; drafted = λ k q h. begins h }
+    where
+      begins : Drafted t x d′
+      begins h =
+          let text = textFrom t x in
+          let l : length d′ ≡ length d = ap length e ∙ length-sets d 0 text in
+          rw (e, sets-eq text d 0 (omega arith)) (take-append-seam text (drop (0 + length text) d))
+
+pub copied : (t x out d out′ : List ℕ) (n : ℕ) → n ≡ length (textFrom t x) → n ≤ length out → n ≤ length d → Drafted t x d
+    → out′ ≡ take n (take n d) ++ drop n out → out′ ≡ sets out 0 (textFrom t x)
+copied t x out d out′ n l h i begins e =
+    let text = textFrom t x in
+    rw (e, sets-eq text out 0 (omega arith), zero-add, l, begins (omega arith), take-length text)
+
 -- ---- the ways through render, by what measure comes to
 module _ {t x : List ℕ} (out : List ℕ) where
   -- a refusal stays one
@@ -83,7 +103,11 @@ module _ {t x : List ℕ} (out : List ℕ) where
         let p = admitted in
         record { answer = m .answer; checks = m .checks; answers = rw (p .0, ← p .1, lt-ltb (length out) n h); writes = refl }
 
-    pub written : {k : ℕ} {out′ : List ℕ} → n ≤ length out → Writes t x out k out′ → Renders t x out (Done n) out′
+    -- the number is the length
+    pub length-is : n ≡ length (textFrom t x)
+    length-is = admitted .1
+
+    pub written : {out′ : List ℕ} → n ≤ length out → out′ ≡ sets out 0 (textFrom t x) → Renders t x out (Done n) out′
     unfolding rendered outputAfter
     written h w =
         let p = admitted in
@@ -92,7 +116,7 @@ module _ {t x : List ℕ} (out : List ℕ) where
           answer = m .answer;
           checks = m .checks;
           answers = rw (p .0, ← p .1, le-ltb (length out) n h);
-          writes = rw (p .1, w .stores, sets-eq (textFrom t x) out 0 (omega arith), zero-add);
+          writes = rw (p .1, w, sets-eq (textFrom t x) out 0 (omega arith), zero-add);
         }
 
 -- ---- no two outcomes satisfy the contract
@@ -111,7 +135,7 @@ renders-unique t x out o p l m f g =
 -- the counting pass and the writing pass agree: where there is room for what measure answers, render answers the same
 pub agree : (t x out out′ : List ℕ) (o p : Outcome) → ((n : ℕ) → o ≡ Done n → n ≤ length out) → Measures t x o → Renders t x out p out′ → p ≡ o
 agree t x out out′ (Done n) p room m r =
-    renders-unique t x out p (Done n) out′ _ r (written out m (room n refl) (record { counts = refl; stores = refl })) .0
+    renders-unique t x out p (Done n) out′ _ r (written out m (room n refl) refl) .0
 agree t x out out′ (Refused a) p room m r =
     renders-unique t x out p (Refused a) out′ out r (kept out (λ n e. let z : _≡_ {A = ℕ} 0 1 = cc in omega arith) m) .0
 agree t x out out′ (NoRoom k) p room m r =

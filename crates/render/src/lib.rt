@@ -1,15 +1,21 @@
 // The whole-tree calls (01, section 3): measure gives the length, render writes.
 //
-// Both check the tree first. To measure is to write to an output with no room, so the two cannot disagree.
+// Both check the tree first, and write the text to a draft, which counts what it has no room for. So the two cannot disagree.
 ghost use mathlib.Core.Path.{_≡_};
+ghost use Prim.Native.Nat.{_≤_};
+ghost use lib.ListN.{length as length'};
+ghost use lib.Seq.{sets};
 ghost use Rattle.spelling.specs.Table.{bytes};
-ghost use Rattle.render.specs.Render.{Measures, Renders, numberOf, placeOf};
-ghost use Rattle.render.specs.Steps.{counted, Writes};
+ghost use Rattle.render.specs.Render.{textFrom, Measures, Renders, numberOf, placeOf};
+ghost use Rattle.render.specs.Steps.{Writes, Drafted, Drafts};
 use stream::Sink;
 use tree::Answer;
 
 // 01's number for an output that is too short.
 const NO_ROOM: u64 = 8;
+
+// The bytes of a draft: few texts of a schema are longer.
+const DRAFT: usize = 1024;
 
 pub enum Outcome {
     // Measured or written: so many bytes.
@@ -55,47 +61,61 @@ fn write(out: &mut [u8], words: &[u8], tree: &[u8], text: &[u8]) -> usize
     end.at
 }
 
-// How long the text of a tree is: it is written to an output with no room.
-fn length_of(words: &[u8], tree: &[u8], text: &[u8]) -> usize
+// The length of the text of a tree, or the check's refusal, with the table of spellings lent. The text is written to a
+// draft, as much of it as there is room for.
+fn check_and_measure(draft: &mut [u8], words: &[u8], tree: &[u8], text: &[u8]) -> Outcome
     requires { ⌜ now words ≡ bytes ⌝ }
-    ensures { λ r. ⌜ r ≡ counted (now (tree .entry)) (now (text .entry)) ⌝ }
-{
-    let mut nothing = [0u8; 0];
-    write(&mut nothing, words, tree, text)
-}
-
-// The length of the text of a tree, or the check's refusal, with the table of spellings lent.
-fn check_and_measure(words: &[u8], tree: &[u8], text: &[u8]) -> Outcome
-    requires { ⌜ now words ≡ bytes ⌝ }
-    ensures { λ r. ⌜ Measures (now (tree .entry)) (now (text .entry)) r ⌝ }
+    ensures { λ r. ⌜ Drafts (now (tree .entry)) (now (text .entry)) r (now (draft .exit)) ⌝ }
 {
     let answer = tree::check(tree, text);
     if tree::number(answer) != 0 {
         return Outcome::Refused(answer);
     }
-    Outcome::Done(length_of(words, tree, text))
+    Outcome::Done(write(draft, words, tree, text))
 }
 
-// The length of the text of a tree, or the check's refusal.
+// The length of the text of a tree, or the check's refusal: there is no room for a draft.
 pub fn measure(tree: &[u8], text: &[u8]) -> Outcome
     ensures { λ r. ⌜ Measures (now (tree .entry)) (now (text .entry)) r ⌝ }
 {
     let words = spelling::table();
-    check_and_measure(&words, tree, text)
+    let mut nothing = [0u8; 0];
+    check_and_measure(&mut nothing, &words, tree, text)
 }
 
-// The text of a tree written to the output, or a refusal, which writes nothing.
+// The text of a tree, which has so many bytes, in the output: copied from its draft, if that has room for all of it.
+fn fair_copy(
+    out: &mut [u8],
+    draft: &[u8],
+    words: &[u8],
+    tree: &[u8],
+    text: &[u8],
+    length: usize,
+)
+    requires { ⌜ (now words ≡ bytes) × ((length ≡ length' (textFrom (now tree) (now text))) × ((length ≤ length' (now out)) × Drafted (now tree) (now text) (now draft))) ⌝ }
+    ensures { λ _. ⌜ now (out .exit) ≡ sets (now (out .entry)) 0 (textFrom (now (tree .entry)) (now (text .entry))) ⌝ }
+{
+    if length <= draft.len() {
+        bytes::copy(&draft[..length], out);
+    } else {
+        write(out, words, tree, text);
+    }
+}
+
+// The text of a tree written to the output, or a refusal, which writes nothing. Most texts are short, and their draft
+// is copied; a longer one is written twice, the first time for its length.
 pub fn render(tree: &[u8], text: &[u8], out: &mut [u8]) -> Outcome
     ensures { λ r. ⌜ Renders (now (tree .entry)) (now (text .entry)) (now (out .entry)) r (now (out .exit)) ⌝ }
 {
     let words = spelling::table();
-    let measured = check_and_measure(&words, tree, text);
+    let mut draft = [0u8; DRAFT];
+    let measured = check_and_measure(&mut draft, &words, tree, text);
     let Outcome::Done(length) = measured else {
         return measured;
     };
     if out.len() < length {
         return Outcome::NoRoom(length);
     }
-    write(out, &words, tree, text);
+    fair_copy(out, &draft, &words, tree, text, length);
     Outcome::Done(length)
 }
