@@ -1,4 +1,5 @@
 pub mod Among
+pub mod Apart
 pub mod Below
 pub mod Bytes
 pub mod Determined

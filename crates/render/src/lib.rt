@@ -84,14 +84,7 @@ pub fn measure(tree: &[u8], text: &[u8]) -> Outcome
 }
 
 // The text of a tree, which has so many bytes, in the output: copied from its draft, if that has room for all of it.
-fn fair_copy(
-    out: &mut [u8],
-    draft: &[u8],
-    words: &[u8],
-    tree: &[u8],
-    text: &[u8],
-    length: usize,
-)
+fn fair_copy(out: &mut [u8], draft: &[u8], words: &[u8], tree: &[u8], text: &[u8], length: usize)
     requires { ⌜ (now words ≡ bytes) × ((length ≡ length' (textFrom (now tree) (now text))) × ((length ≤ length' (now out)) × Drafted (now tree) (now text) (now draft))) ⌝ }
     ensures { λ _. ⌜ now (out .exit) ≡ sets (now (out .entry)) 0 (textFrom (now (tree .entry)) (now (text .entry))) ⌝ }
 {

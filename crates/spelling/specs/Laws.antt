@@ -1,5 +1,5 @@
 -- Rules of the spelling table, each by one test that is computed over all of its rows, and a law that turns the test into the rule.
-use Prim.Native.Nat.{ℕ, _+_, _*_, _-_, _≤_, _<_}
+use Prim.Native.Nat.{ℕ, _+_, _-_, _/_, _%_, _≤_, _<_}
 use native.Mathlib.Omega.{arith}
 use mathlib.Core.Path.{_≡_, refl}
 use mathlib.Core.List.{List, []}
@@ -14,7 +14,7 @@ use Rattle.laws.specs.Bytes.{same, equal}
 use Rattle.laws.specs.Tests.{beq}
 use Rattle.spelling.specs.Rows.{unknown, rows}
 use Rattle.spelling.specs.Spelling.{row, known, spelling}
-use Rattle.spelling.specs.Table.{bytes, spellingIn, startIn, lengthIn, within, rowsHeld, poolAt}
+use Rattle.spelling.specs.Table.{bytes, heads, rowOf, spellingIn, within, rowsHeld, lengths}
 
 abbrev count : ℕ
 count = 256
@@ -53,12 +53,16 @@ ranged-known k =
 
 -- the lent table spells every number as the rows do
 spells-below : below (λ k. same (spellingIn bytes k) (spelling k)) count ≡ true
-unfolding spellingIn startIn lengthIn within bytes spelling row rows
+unfolding spellingIn rowOf within bytes spelling row rows
 spells-below = refl
 
+pub row-none : (k : ℕ) → rowsHeld ≤ k → rowOf k ≡ 0
+unfolding rowOf rows
+row-none k h = List·getD-eq-default (heads 0 (take rowsHeld rows)) 0 h
+
 spells-past : (k : ℕ) → count ≤ k → spellingIn bytes k ≡ spelling k
-unfolding spellingIn spelling
-spells-past k h = rw (row-past k h, le-ltb k rowsHeld (omega arith))
+unfolding spellingIn spelling within
+spells-past k h = rw (row-past k h, row-none k (omega arith), le-leb 0 (length bytes) (omega arith))
 
 pub spells : (k : ℕ) → spellingIn bytes k ≡ spelling k
 spells k =
@@ -82,14 +86,9 @@ within-whole t i n e p h =
     let l : i + n ≤ length t = omega arith in
     rw (le-leb (i + n) (length t) l, q)
 
-pub spellingIn-past : (t : List ℕ) (k : ℕ) → rowsHeld ≤ k → [] ≡ spellingIn t k
+pub spelled-by-row : (t w : List ℕ) (k r : ℕ) → r ≡ rowOf k → w ≡ within t (r / lengths) (r % lengths) → w ≡ spellingIn t k
 unfolding spellingIn
-spellingIn-past t k h = rw (le-ltb k rowsHeld h)
-
-pub spellingIn-row : (t w : List ℕ) (k low high len : ℕ) → k < rowsHeld → low ≡ getD t (k * 3) 0 → high ≡ getD t (k * 3 + 1) 0 → len ≡ getD t (k * 3 + 2) 0
-    → w ≡ within t (poolAt + low + 256 * high) len → w ≡ spellingIn t k
-unfolding spellingIn startIn lengthIn
-spellingIn-row t w k low high len h l m n e = rw (lt-ltb k rowsHeld h, ← l, ← m, ← n) e
+spelled-by-row t w k r e q = rw (← e) q
 
 -- no fixed spelling is longer than AUTOINCREMENT
 abbrev pub longestSpelling : ℕ
@@ -110,15 +109,15 @@ short k =
     (at (λ n. leb (length (spelling n)) longestSpelling) count short-below k)
     (short-past k))
 
--- the row of a number below the rows lies within the table
-bounds-below : below (λ k. leb (startIn bytes k + lengthIn bytes k) (length bytes)) rowsHeld ≡ true
-unfolding startIn lengthIn bytes rows
+-- the row of a number lies within the pool
+bounds-below : below (λ k. leb (rowOf k / lengths + rowOf k % lengths) (length bytes)) rowsHeld ≡ true
+unfolding rowOf bytes rows
 bounds-below = refl
 
-pub bounds : (k : ℕ) → k < rowsHeld → startIn bytes k + lengthIn bytes k ≤ length bytes
+pub bounds : (k : ℕ) → k < rowsHeld → rowOf k / lengths + rowOf k % lengths ≤ length bytes
 bounds k h =
-    leb-true (startIn bytes k + lengthIn bytes k) (length bytes)
-    (at (λ n. leb (startIn bytes n + lengthIn bytes n) (length bytes)) rowsHeld bounds-below k h)
+    leb-true (rowOf k / lengths + rowOf k % lengths) (length bytes)
+    (at (λ n. leb (rowOf n / lengths + rowOf n % lengths) (length bytes)) rowsHeld bounds-below k h)
 
 -- no byte of a fixed spelling is a blank
 abbrev pub solid : List ℕ → Bool
