@@ -70,25 +70,17 @@ spells k =
     (λ h. equal (spellingIn bytes k) (spelling k) (at (λ n. same (spellingIn bytes n) (spelling n)) count spells-below k h))
     (spells-past k)
 
--- each way through a look-up
-pub within-before : (t : List ℕ) (i n : ℕ) → length t < i → [] ≡ within t i n
-unfolding within
-within-before t i n h = rw (lt-leb (i + n) (length t) (omega arith))
+-- a look-up, by its row: there is no room for the spelling, or it is a part of the pool
+module _ (t : List ℕ) (k r : ℕ) (e : r ≡ rowOf k) where
+  pub no-spelling : length t < r / lengths + r % lengths → [] ≡ spellingIn t k
+  unfolding spellingIn within
+  no-spelling h = rw (← e, lt-leb (r / lengths + r % lengths) (length t) h)
 
-pub within-short : (t : List ℕ) (i n : ℕ) → i ≤ length t → length t - i < n → [] ≡ within t i n
-unfolding within
-within-short t i n h l = rw (lt-leb (i + n) (length t) (omega arith))
-
-pub within-whole : (t : List ℕ) (i n e : ℕ) → e ≡ i + n → e ≤ length t → take (e - i) (drop i t) ≡ within t i n
-unfolding within
-within-whole t i n e p h =
-    let q : e - i ≡ n = omega arith in
-    let l : i + n ≤ length t = omega arith in
-    rw (le-leb (i + n) (length t) l, q)
-
-pub spelled-by-row : (t w : List ℕ) (k r : ℕ) → r ≡ rowOf k → w ≡ within t (r / lengths) (r % lengths) → w ≡ spellingIn t k
-unfolding spellingIn
-spelled-by-row t w k r e q = rw (← e) q
+  pub spelled-by-row : (n : ℕ) → n ≡ r / lengths + r % lengths → n ≤ length t → take (n - r / lengths) (drop (r / lengths) t) ≡ spellingIn t k
+  unfolding spellingIn within
+  spelled-by-row n p h =
+      let q : n - r / lengths ≡ r % lengths = omega (arith, p) in
+      rw (← e, le-leb (r / lengths + r % lengths) (length t) (omega (arith, p)), q)
 
 -- no fixed spelling is longer than AUTOINCREMENT
 abbrev pub longestSpelling : ℕ

@@ -8,7 +8,7 @@ ghost use mathlib.Core.Path.{_≡_};
 ghost use Prim.Native.Nat.{_≤_};
 ghost use lib.ListN.{getD};
 ghost use Rattle.spelling.specs.Spelling.{known as known'};
-ghost use Rattle.spelling.specs.Table.{bytes as bytes', rowOf, within as within', spellingIn};
+ghost use Rattle.spelling.specs.Table.{bytes as bytes', rowOf, spellingIn};
 
 // A row is an offset into the pool times this number, and a length, which is below it.
 const LENGTHS: usize = 16;
@@ -42,20 +42,6 @@ pub fn byte(table: &[u8], i: usize) -> usize
     } else {
         0
     }
-}
-
-// The len bytes from start on, or none where they are not all there.
-fn within(pool: &[u8], start: usize, len: usize) -> &[u8]
-    ensures { λ r. ⌜ now r ≡ within' (now (pool .entry)) start len ⌝ }
-{
-    if pool.len() < start {
-        return &pool[..0];
-    }
-    if pool.len() - start < len {
-        return &pool[..0];
-    }
-    let end = start + len;
-    &pool[start..end]
 }
 
 // The row of a token number, in the order of token.rs: where its spelling stands in the pool and, in the last hex digit,
@@ -267,7 +253,12 @@ pub fn of(pool: &[u8], number: u16) -> &[u8]
     ensures { λ r. ⌜ now r ≡ spellingIn (now (pool .entry)) number ⌝ }
 {
     let row = row(number) as usize;
-    within(pool, row / LENGTHS, row % LENGTHS)
+    let start = row / LENGTHS;
+    let end = start + row % LENGTHS;
+    if pool.len() < end {
+        return &pool[..0];
+    }
+    &pool[start..end]
 }
 
 // Whether a token has the number.
