@@ -32,6 +32,7 @@ use spelling::token::TK_NOT;
 use spelling::token::TK_ON;
 use spelling::token::TK_RP;
 use spelling::token::TK_SEMI;
+use stream::Sink;
 
 // Bit 15 of a TOKEN's flags: a value is present. The number is below it.
 const PRESENT: u16 = 0x8000;
@@ -76,16 +77,34 @@ fn tokens(p: Pen, out: &mut [u8], words: &[u8], tree: &[u8], text: &[u8], n: u16
     q
 }
 
-// The next record, a RUN: its tokens. Any other kind, NONE too, writes nothing.
-pub fn run(p: Pen, out: &mut [u8], words: &[u8], tree: &[u8], text: &[u8]) -> Pen
-    ensures { λ q. ⌜ Always (source (now (tree .entry)) (now (text .entry))) (now (words .entry)) (slot run') (p, now (out .entry)) (q, now (out .exit)) ⌝ }
+// The next record, a RUN: its tokens. Any other kind, NONE too, writes nothing. The pen comes in its fields: handed on
+// whole, it would be copied whole, its unused bytes too, and waited for.
+fn run_from(
+    spaced: bool,
+    at: usize,
+    next: usize,
+    out: &mut [u8],
+    words: &[u8],
+    tree: &[u8],
+    text: &[u8],
+) -> Pen
+    ensures { λ q. ⌜ Always (source (now (tree .entry)) (now (text .entry))) (now (words .entry)) (slot run') (record { sink = record { spaced = spaced; at = at }; next = next }, now (out .entry)) (q, now (out .exit)) ⌝ }
 {
-    let r = record::read(tree, p.next);
-    let q = pass(p, tree);
+    let r = record::read(tree, next);
+    let sink = Sink { spaced, at };
+    let q = pass(Pen { sink, next }, tree);
     if r.kind != RUN {
         return q;
     }
     tokens(q, out, words, tree, text, r.kids)
+}
+
+// The same for a pen.
+pub fn run(p: Pen, out: &mut [u8], words: &[u8], tree: &[u8], text: &[u8]) -> Pen
+    ensures { λ q. ⌜ Always (source (now (tree .entry)) (now (text .entry))) (now (words .entry)) (slot run') (p, now (out .entry)) (q, now (out .exit)) ⌝ }
+{
+    let s = p.sink;
+    run_from(s.spaced, s.at, p.next, out, words, tree, text)
 }
 
 // The next record, a TEXT, as TK_ID. Any other kind, NONE too, writes nothing.
@@ -168,7 +187,8 @@ fn runs(p: Pen, out: &mut [u8], words: &[u8], tree: &[u8], text: &[u8], n: u16, 
     let mut lead = false;
     while 0 < rest {
         q = comma_if(q, out, words, lead);
-        q = run(q, out, words, tree, text);
+        let s = q.sink;
+        q = run_from(s.spaced, s.at, q.next, out, words, tree, text);
         lead = commas;
         rest -= 1;
     }

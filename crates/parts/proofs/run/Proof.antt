@@ -1,29 +1,10 @@
--- `parts::run` writes the tokens of a RUN.
+-- `parts::run` writes what `run_from` writes for the pen's fields.
 use borrow.Author.Needs.{needs}
-use Rattle.grammar.specs.Slots.{allowed}
-use borrow.Author.Tests.{ne-eqb}
-use Rattle.pen.specs.Places.{not-placed, run-on}
 use Rattle.parts.proofs.run.Statement.{statement}
 use Rattle.parts.proofs.run.Tie as tie
 
 returns : tie.Need-returns
-unfolding allowed
-returns c d r =
-    let at-pass = c .before .before in
-    let at-read = at-pass .before in
-    not-placed (at-read .read .ensures) (rw (ne-eqb _ _ (c .if1 .taken))) (at-pass .pass .ensures)
-
-returns-2 : tie.Need-returns-2
-returns-2 c d r =
-    let at-tokens = c .before .before in
-    let at-if1 = at-tokens .before .before in
-    let at-pass = at-if1 .before .before in
-    let at-read = at-pass .before in
-    run-on (at-read .read .ensures) (at-if1 .if1 .left) (at-pass .pass .ensures) (at-tokens .tokens .ensures)
+returns c = c .before .before .run-from .ensures
 
 pub run-spec : {M : Type 1} → statement M
-run-spec =
-    tie.close
-    (tie.spec
-    (λ c κs. search needs) (λ c κs. search needs) returns (λ c κs. search needs) (λ c. search needs)
-    returns-2)
+run-spec = tie.close (tie.spec (λ c κs. search needs) (λ c. search needs) returns)

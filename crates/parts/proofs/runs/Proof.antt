@@ -28,10 +28,10 @@ loop-again : tie.Need-loop-again Inv-loop μ-loop
 unfolding means
 loop-again c d =
     let at-run = c .before .before in
-    let at-comma-if = at-run .before .before .before .before in
+    let at-comma-if = at-run .before .before .before .before .before in
     let at-loop-test = at-comma-if .before .before in
     let at-loop = at-loop-test .before in
-    row-first _ _ _ _ (at-loop-test .loop-test .taken) (at-comma-if .comma-if .ensures) (at-run .run .ensures d records.nothing .puts) ∙ at-loop .loop .inv d
+    row-first _ _ _ _ (at-loop-test .loop-test .taken) (at-comma-if .comma-if .ensures) (at-run .run-from .ensures d records.nothing .puts) ∙ at-loop .loop .inv d
 
 returns : tie.Need-returns Inv-loop μ-loop
 returns c d =
