@@ -1,42 +1,24 @@
--- The code's table says what the grammar says: one computed test over all places and kinds, and one over all kinds, and the laws that they give.
-use Prim.Native.Nat.{ℕ, _≤_, _<_}
+-- The grammar in numbers says what the grammar says: digits of a packed number, the kinds that may stand in a place, and what the places of elements and slots and a kind's rule are, which is computed at each.
+use Prim.Native.Nat.{ℕ, zero, suc, _+_, _-_, _*_, _/_, _%_, _^_, _≤_, _<_}
 use native.Mathlib.Omega.{arith}
+use native.Mathlib.Nat.{not-suc-le-zero, div-one, pow-zero, pow-succ', div-eq-of-lt, div-div-eq-div-mul, add-mul-div-left, add-mul-mod-self-left, mod-eq-of-lt}
 use mathlib.Core.Path.{_≡_, refl, _∙_, sym, ap}
 use mathlib.Core.List.{List, [], _∷_}
-use mathlib.Core.Bool.{Bool, true, false, _&&_, Bool·beq, false≢true}
+use mathlib.Core.Bool.{Bool, true, false, cond, _&&_, false≢true}
 use lib.Dec.{eqb, leb, ltb}
 use lib.ListN.{length, getD}
 use borrow.Author.Tests.{eqb-true, ne-eqb, leb-true, ltb-true, ltb-false}
 use Rattle.laws.specs.Among.{among, all}
 use Rattle.laws.specs.Below.{below, at}
 use Rattle.laws.specs.Bytes.{same, equal}
-use Rattle.laws.specs.Tests.{beq, and-left, and-right}
+use Rattle.laws.specs.Tests.{and-left, and-right}
 use Rattle.grammar.specs.Shape.{Class, one, list, oneOr, small}
 use Rattle.grammar.specs.Grammar.{shape}
 use Rattle.grammar.specs.Slots.{slotsOf, flagsBelow, allowed, elements}
 use Rattle.grammar.specs.Classes.{classes, classesHeld, classAt}
-use Rattle.grammar.specs.Bytes.{bytes}
-use Rattle.grammar.specs.Table.{allowedIn, elementIn, flagsIn, slotsIn, slotIn}
+use Rattle.grammar.specs.Packed.{kindsHeld, packed, bit, lowKinds, highKinds, sameClass, numberFrom, numbered, elementOf, ruleOf, slotOf, placesOf}
 
 -- ---- two places are the same
-sameClass : Class → Class → Bool
-sameClass (one xs) (one ys) = same xs ys
-sameClass (one xs) (list d) = false
-sameClass (one xs) (oneOr ys d) = false
-sameClass (one xs) small = false
-sameClass (list c) (one ys) = false
-sameClass (list c) (list d) = sameClass c d
-sameClass (list c) (oneOr ys d) = false
-sameClass (list c) small = false
-sameClass (oneOr xs c) (one ys) = false
-sameClass (oneOr xs c) (list d) = false
-sameClass (oneOr xs c) (oneOr ys d) = same xs ys && sameClass c d
-sameClass (oneOr xs c) small = false
-sameClass small (one ys) = false
-sameClass small (list d) = false
-sameClass small (oneOr ys d) = false
-sameClass small small = true
-
 same-class : (c d : Class) → sameClass c d ≡ true → c ≡ d
 unfolding sameClass
 same-class (one xs) (one ys) h = ap one (equal xs ys h)
@@ -56,28 +38,25 @@ same-class small (list d) h = absurd (false≢true h)
 same-class small (oneOr ys d) h = absurd (false≢true h)
 same-class small small h = refl
 
--- ---- the test of a place: its bits, and the place of its elements
-abbrev kinds : ℕ
-kinds = 128
+-- ---- a digit of a packed number
+module _ (b : ℕ) (pos : 0 < b) (g : ℕ → ℕ) (small-digits : (j : ℕ) → g j < b) where
+  others : (k n : ℕ) → packed b g k (suc n) / b ≡ packed b g (k + 1) n
+  others k n =
+      let m = packed b g (k + 1) n in
+      let z : 0 + m ≡ m = omega arith in
+      add-mul-div-left (g k) m pos ∙ ap (λ (q : ℕ). q + m) (div-eq-of-lt (small-digits k)) ∙ z
 
-abbrev bitRight : ℕ → ℕ → Bool
-bitRight n k = Bool·beq (allowedIn bytes n k) (allowed (classAt n) k)
-
-abbrev placeRight : ℕ → Bool
-placeRight n =
-    below (bitRight n) kinds && (ltb (elementIn bytes n) classesHeld && sameClass (classAt (elementIn bytes n)) (elements (classAt n)))
-
-places-right : below placeRight classesHeld ≡ true
-unfolding allowedIn elementIn bytes classAt classes allowed elements sameClass
-places-right = refl
-
-place-right : (n : ℕ) → n < classesHeld → placeRight n ≡ true
-place-right n h = at placeRight classesHeld places-right n h
+  digit : (k n s j : ℕ) → s < n → k + s ≡ j → packed b g k n / b ^ s % b ≡ g j
+  digit k zero s j h e = absurd (not-suc-le-zero h)
+  digit k (suc n) zero j h e =
+      let z : k ≡ j = omega arith in
+      rw (pow-zero b, div-one (packed b g k (suc n)))
+      (add-mul-mod-self-left (g k) b (packed b g (k + 1) n) ∙ mod-eq-of-lt (small-digits k) ∙ ap g z)
+  digit k (suc n) (suc s) j h e =
+      rw (pow-succ' b s, ← div-div-eq-div-mul (packed b g k (suc n)) b (b ^ s), others k n)
+      (digit (k + 1) n s j (omega arith) (omega arith))
 
 -- ---- no place takes a kind past the last
-abbrev pub kindsHeld : ℕ
-kindsHeld = 121
-
 abbrev early : ℕ → Bool
 early k = ltb k kindsHeld
 
@@ -113,71 +92,123 @@ allowed-held n k h t = by (ltb k kindsHeld) refl
         let z : false ≡ true = sym (not-allowed (classAt n) k (at (λ m. lateless (classAt m)) classesHeld lateless-all n h) (ltb-false k kindsHeld e)) ∙ t in
         absurd (false≢true z)
 
--- ---- what the table says of a place is the grammar's
-no-bit : (n k : ℕ) → ltb k kinds ≡ false → allowedIn bytes n k ≡ false
-unfolding allowedIn
-no-bit n k e = rw e
-
-pub allowed-is : (n k : ℕ) → n < classesHeld → allowedIn bytes n k ≡ allowed (classAt n) k
-allowed-is n k h = by (ltb k kinds) refl
+-- ---- the bit of a kind
+bit-small : (n k : ℕ) → bit n k < 2
+bit-small n k = by (allowed (classAt n) k)
   where
-    by : (b : Bool) → ltb k kinds ≡ b → allowedIn bytes n k ≡ allowed (classAt n) k
-    by true e =
-        beq (allowedIn bytes n k) (allowed (classAt n) k)
-        (at (bitRight n) kinds (and-left (below (bitRight n) kinds) _ (place-right n h)) k (ltb-true k kinds e))
-    by false e =
-        let l : kinds ≤ k = ltb-false k kinds e in
-        no-bit n k e ∙ sym (not-allowed (classAt n) k (at (λ m. lateless (classAt m)) classesHeld lateless-all n h) (omega arith))
+    by : (b : Bool) → cond b 1 0 < 2
+    by true = omega arith
+    by false = omega arith
 
-pub element-held : (n : ℕ) → n < classesHeld → elementIn bytes n < classesHeld
-element-held n h = ltb-true (elementIn bytes n) classesHeld (and-left (ltb (elementIn bytes n) classesHeld) _ (and-right (below (bitRight n) kinds) _ (place-right n h)))
+bit-is : (b : Bool) → eqb (cond b 1 0) 1 ≡ b
+bit-is true = refl
+bit-is false = refl
 
-pub element-is : (n : ℕ) → n < classesHeld → classAt (elementIn bytes n) ≡ elements (classAt n)
-element-is n h =
-    same-class (classAt (elementIn bytes n)) (elements (classAt n))
-    (and-right (ltb (elementIn bytes n) classesHeld) _ (and-right (below (bitRight n) kinds) _ (place-right n h)))
+pub low-bit : (n k m : ℕ) → m ≡ lowKinds n → k < 64 → eqb (m / 2 ^ k % 2) 1 ≡ allowed (classAt n) k
+unfolding lowKinds
+low-bit n k m e h = rw (e, digit 2 (omega arith) (bit n) (bit-small n) 0 64 k k h (omega arith)) (bit-is (allowed (classAt n) k))
 
--- ---- the test of a kind: its flags, and its slots
-abbrev slotRight : ℕ → ℕ → Bool
-slotRight k s =
-    ltb (slotIn bytes k s) classesHeld && sameClass (classAt (slotIn bytes k s)) (getD (slotsOf (shape k)) s (one []))
+pub high-bit : (n k m : ℕ) → m ≡ highKinds n → 64 ≤ k → k < 128 → eqb (m / 2 ^ (k - 64) % 2) 1 ≡ allowed (classAt n) k
+unfolding highKinds
+high-bit n k m e l h =
+    rw (e, digit 2 (omega arith) (bit n) (bit-small n) 64 64 (k - 64) k (omega arith) (omega arith)) (bit-is (allowed (classAt n) k))
+
+pub no-bit : (n k : ℕ) → n < classesHeld → 128 ≤ k → false ≡ allowed (classAt n) k
+no-bit n k h l = sym (not-allowed (classAt n) k (at (λ m. lateless (classAt m)) classesHeld lateless-all n h) (omega arith))
+
+-- ---- the number of a place is that of a place that is the same
+numberFrom-within : (n : ℕ) (ds : List Class) (c : Class) → numberFrom n ds c ≤ n + length ds
+numberFrom-within n [] c = omega arith
+numberFrom-within n (d ∷ ds) c = by (sameClass d c) (numberFrom-within (n + 1) ds c)
+  where
+    by : (b : Bool) → numberFrom (n + 1) ds c ≤ n + 1 + length ds → cond b n (numberFrom (n + 1) ds c) ≤ n + suc (length ds)
+    by true h = omega arith
+    by false h = omega arith
+
+numbered-byte : (c : Class) → numbered c < 256
+unfolding numbered classes
+numbered-byte c = omega (arith, numberFrom-within 0 classes c)
+
+abbrev held : Class → Bool
+held c = ltb (numbered c) classesHeld && sameClass (classAt (numbered c)) c
+
+module _ (c : Class) (h : held c ≡ true) where
+  held-within : numbered c < classesHeld
+  held-within = ltb-true (numbered c) classesHeld (and-left (ltb (numbered c) classesHeld) _ h)
+
+  held-is : classAt (numbered c) ≡ c
+  held-is = same-class (classAt (numbered c)) c (and-right (ltb (numbered c) classesHeld) _ h)
+
+-- ---- the elements of each place
+elements-held : below (λ n. held (elements (classAt n))) classesHeld ≡ true
+unfolding numbered sameClass classAt classes elements
+elements-held = refl
+
+module _ (n : ℕ) (h : n < classesHeld) where
+  element-right : held (elements (classAt n)) ≡ true
+  element-right = at (λ m. held (elements (classAt m))) classesHeld elements-held n h
+
+  pub element-held : elementOf n < classesHeld
+  unfolding elementOf
+  element-held = held-within (elements (classAt n)) element-right
+
+  pub element-is : classAt (elementOf n) ≡ elements (classAt n)
+  unfolding elementOf
+  element-is = held-is (elements (classAt n)) element-right
+
+-- ---- the rule and the slots of each kind: no kind has more slots than eight
+abbrev slotHeld : ℕ → ℕ → Bool
+slotHeld k s = held (getD (slotsOf (shape k)) s (one []))
 
 abbrev kindRight : ℕ → Bool
 kindRight k =
-    eqb (flagsIn bytes k) (flagsBelow (shape k)) && (eqb (slotsIn bytes k) (length (slotsOf (shape k))) && below (slotRight k) (slotsIn bytes k))
+    ltb (flagsBelow (shape k)) 256 && (leb (length (slotsOf (shape k))) 8 && below (slotHeld k) (length (slotsOf (shape k))))
 
 kinds-right : below kindRight kindsHeld ≡ true
-unfolding flagsIn slotsIn slotIn bytes classAt classes sameClass slotsOf flagsBelow shape
+unfolding numbered sameClass classAt classes slotsOf flagsBelow shape
 kinds-right = refl
 
 module _ (k : ℕ) (h : k < kindsHeld) where
   right : kindRight k ≡ true
   right = at kindRight kindsHeld kinds-right k h
 
-  pub flags-are : flagsIn bytes k ≡ flagsBelow (shape k)
-  flags-are = eqb-true (flagsIn bytes k) (flagsBelow (shape k)) (and-left (eqb (flagsIn bytes k) (flagsBelow (shape k))) _ right)
+  flags-few : flagsBelow (shape k) < 256
+  flags-few = ltb-true (flagsBelow (shape k)) 256 (and-left (ltb (flagsBelow (shape k)) 256) _ right)
 
-  rest : eqb (slotsIn bytes k) (length (slotsOf (shape k))) && below (slotRight k) (slotsIn bytes k) ≡ true
-  rest = and-right (eqb (flagsIn bytes k) (flagsBelow (shape k))) _ right
+  slots-right : leb (length (slotsOf (shape k))) 8 && below (slotHeld k) (length (slotsOf (shape k))) ≡ true
+  slots-right = and-right (ltb (flagsBelow (shape k)) 256) _ right
 
-  pub slots-are : slotsIn bytes k ≡ length (slotsOf (shape k))
-  slots-are = eqb-true (slotsIn bytes k) (length (slotsOf (shape k))) (and-left (eqb (slotsIn bytes k) (length (slotsOf (shape k)))) _ rest)
+  pub slots-few : length (slotsOf (shape k)) ≤ 8
+  slots-few = leb-true (length (slotsOf (shape k))) 8 (and-left (leb (length (slotsOf (shape k))) 8) _ slots-right)
 
-  slot-right : (s : ℕ) → s < slotsIn bytes k → slotRight k s ≡ true
-  slot-right s l = at (slotRight k) (slotsIn bytes k) (and-right (eqb (slotsIn bytes k) (length (slotsOf (shape k)))) _ rest) s l
+  pub rule-flags : ruleOf k % 256 ≡ flagsBelow (shape k)
+  unfolding ruleOf
+  rule-flags = add-mul-mod-self-left (flagsBelow (shape k)) 256 (length (slotsOf (shape k))) ∙ mod-eq-of-lt flags-few
 
-  pub slot-held : (s : ℕ) → s < slotsIn bytes k → slotIn bytes k s < classesHeld
-  slot-held s l = ltb-true (slotIn bytes k s) classesHeld (and-left (ltb (slotIn bytes k s) classesHeld) _ (slot-right s l))
+  pub rule-slots : ruleOf k / 256 ≡ length (slotsOf (shape k))
+  unfolding ruleOf
+  rule-slots = add-mul-div-left (flagsBelow (shape k)) (length (slotsOf (shape k))) (omega arith) ∙ ap (λ (z : ℕ). z + length (slotsOf (shape k))) (div-eq-of-lt flags-few) ∙ omega arith
 
-  pub slot-is : (s : ℕ) → s < slotsIn bytes k → classAt (slotIn bytes k s) ≡ getD (slotsOf (shape k)) s (one [])
-  slot-is s l =
-      same-class (classAt (slotIn bytes k s)) (getD (slotsOf (shape k)) s (one []))
-      (and-right (ltb (slotIn bytes k s) classesHeld) _ (slot-right s l))
+  slot-small : (s : ℕ) → slotOf k s < 256
+  unfolding slotOf
+  slot-small s = numbered-byte (getD (slotsOf (shape k)) s (one []))
 
--- no kind has more slots than eight
-few-below : below (λ k. leb (slotsIn bytes k) 8) kindsHeld ≡ true
-unfolding slotsIn bytes
-few-below = refl
+  module _ (s : ℕ) (l : s < length (slotsOf (shape k))) where
+    slot-right : slotHeld k s ≡ true
+    slot-right = at (slotHeld k) (length (slotsOf (shape k))) (and-right (leb (length (slotsOf (shape k))) 8) _ slots-right) s l
 
-pub slots-few : (k : ℕ) → k < kindsHeld → slotsIn bytes k ≤ 8
-slots-few k h = leb-true (slotsIn bytes k) 8 (at (λ n. leb (slotsIn bytes n) 8) kindsHeld few-below k h)
+    pub slot-held : slotOf k s < classesHeld
+    unfolding slotOf
+    slot-held = held-within (getD (slotsOf (shape k)) s (one [])) slot-right
+
+    pub slot-is : classAt (slotOf k s) ≡ getD (slotsOf (shape k)) s (one [])
+    unfolding slotOf
+    slot-is = held-is (getD (slotsOf (shape k)) s (one [])) slot-right
+
+    -- a byte of the packed places
+    pub slot-byte : (m : ℕ) → m ≡ placesOf k → m / 2 ^ (8 * s) % 256 ≡ slotOf k s
+    unfolding placesOf
+    slot-byte m e =
+        let few : s < 8 = omega (arith, slots-few) in
+        rw (e, eqb-true (2 ^ (8 * s)) (256 ^ s) (at (λ j. eqb (2 ^ (8 * j)) (256 ^ j)) 8 refl s few))
+        (digit 256 (omega arith) (slotOf k) slot-small 0 8 s s few (omega arith))

@@ -3,6 +3,5 @@ pub mod Shape
 pub mod Grammar
 pub mod Slots
 pub mod Classes
-pub mod Bytes
-pub mod Table
+pub mod Packed
 pub mod Laws

@@ -1,191 +1,492 @@
-// The grammar of the flat tree (01, section 2) as a table: which kinds may stand where, and what each kind holds.
+// The grammar of the flat tree (01, section 2) in numbers: which kinds may stand where, and what each kind holds.
 //
-// The table is made once, by `table`, and lent to whoever looks something up. A place is named by its number.
+// A place is named by its number. Each table is a `match`, a line for each place or kind: it is looked up where it lies, and
+// never made. Its last line is never reached; its number is one that no other line has, which keeps the look-up a single load.
 pub mod kind;
 
 ghost use mathlib.Core.Path.{_≡_};
-ghost use Rattle.grammar.specs.Bytes.{bytes as bytes'};
-ghost use Rattle.grammar.specs.Table.{allowedIn, elementIn, flagsIn, slotsIn, slotIn};
+ghost use Prim.Native.Nat.{_<_};
+ghost use lib.ListN.{length};
+ghost use Rattle.grammar.specs.Grammar.{shape};
+ghost use Rattle.grammar.specs.Slots.{slotsOf, allowed as allowed'};
+ghost use Rattle.grammar.specs.Classes.{classesHeld, classAt};
+ghost use Rattle.grammar.specs.Packed.{kindsHeld, lowKinds, highKinds, elementOf, ruleOf, placesOf, slotOf};
 
-// The places that the check names itself: the root, a RUN's TOKEN, and a NUMBER up to 255.
+// The places that the check names itself: the root, and a NUMBER up to 255.
 pub const ROOT: u8 = 1;
-
-pub const TOKENS: u8 = 3;
 
 pub const SMALL: u8 = 4;
 
-// A place has a bit for each kind below KINDS, and the place of a LIST's elements.
+// In a kind's rule, the weight of the number of its slots; below it stands the number that its flags are below.
+pub const SLOTS: u16 = 0x100;
+
+// A place's kinds are in two numbers, with a bit for each kind: those below HIGH, and those from there to KINDS.
+const HIGH: u16 = 64;
+
 const KINDS: u16 = 128;
 
-const PLACE: usize = 17;
+// The place of a slot is a byte of its kind's number.
+const BYTE: u64 = 0x100;
 
-const ELEMENT: usize = 16;
+const BITS: u16 = 8;
 
-// Behind the places stand the kinds: the number that its flags are below, how many slots it has, the place of each.
-const KINDS_AT: usize = 833;
-
-const KIND: usize = 10;
-
-const SLOTS: usize = 1;
-
-const FIRST: usize = 2;
-
-// A line a place, and then two kinds a line.
-const TABLE: [u8; 2043] = *b"\
-\x00\x00\x00\x00\x00\x00\x00\x00\x00\x00\x00\x00\x00\x00\x00\x00\x00\
-\x0a\x04\x00\x00\xff\xff\xff\xff\x01\x00\xff\xff\xff\xff\x7f\x01\x02\
-\x08\x00\x00\x00\xff\xff\xff\xff\x01\x00\xff\xff\xff\xff\x7f\x01\x00\
-\x04\x00\x00\x00\x00\x00\x00\x00\x00\x00\x00\x00\x00\x00\x00\x00\x00\
-\x20\x00\x00\x00\x00\x00\x00\x00\x00\x00\x00\x00\x00\x00\x00\x00\x00\
-\x08\x00\x00\x00\xff\xff\xff\xff\x01\x00\x00\x00\x00\x00\x00\x00\x00\
-\x08\x00\x00\x00\x00\x00\x00\x00\x00\x00\x00\x00\x00\x00\x00\x00\x00\
-\x08\x00\x00\x00\x00\x00\x00\x00\x00\x00\x00\xe0\x03\x00\x00\x00\x00\
-\x09\x00\x00\x00\x00\x00\x00\x00\x00\x00\x00\x00\x00\x00\x00\x00\x00\
-\x02\x00\x00\x00\x00\x00\x00\x00\x00\x00\x00\x00\x00\x00\x00\x00\x06\
-\x02\x00\x00\x00\x00\x00\x00\x00\x00\x00\x00\x00\x00\x00\x00\x00\x0b\
-\x08\x00\x00\x00\x00\x00\x00\x00\x00\x00\x00\x00\x00\x00\x40\x00\x00\
-\x08\x00\x00\x00\x00\x00\x00\x00\x00\x00\x00\x00\x0c\x00\x00\x00\x00\
-\x08\x00\x00\x00\x00\x00\x00\x00\x00\x00\x01\x00\x00\x00\x00\x00\x00\
-\x09\x00\x00\x00\x00\x00\x00\x00\x00\x00\x00\x00\x00\x40\x00\x00\x00\
-\x09\x00\x00\x00\x00\x00\x00\x00\x00\x00\x00\x00\x00\x00\x80\x00\x00\
-\x09\x00\x00\x00\x00\x00\x00\x00\x00\x00\x20\x00\x00\x00\x00\x00\x00\
-\x10\x00\x00\x00\x00\x00\x00\x00\x00\x00\x00\x00\x00\x00\x00\x00\x00\
-\x08\x00\x00\x00\x00\x00\x00\x00\x00\x00\x00\x00\x00\x80\x03\x00\x00\
-\x02\x00\x00\x00\x00\x00\x00\x00\x00\x00\x00\x00\x00\x00\x00\x00\x14\
-\x08\x00\x00\x00\x00\x00\x00\x00\x00\x00\x00\x00\x00\x00\x20\x00\x00\
-\x21\x00\x00\x00\x00\x00\x00\x00\x00\x00\x00\x00\x00\x00\x00\x00\x00\
-\x08\x00\x00\x00\x00\x00\x00\x00\x00\x00\x02\x00\x00\x00\x00\x00\x00\
-\x08\x00\x00\x00\x00\x00\x00\x00\x00\x00\x18\x00\x00\x00\x00\x00\x00\
-\x02\x00\x00\x00\x00\x00\x00\x00\x00\x00\x00\x00\x00\x00\x00\x00\x19\
-\x08\x00\x00\x00\x00\x00\x00\x00\x00\x00\x04\x00\x00\x00\x00\x00\x00\
-\x02\x00\x00\x00\x00\x00\x00\x00\x00\x00\x00\x00\x00\x00\x00\x00\x09\
-\x08\x00\x00\x00\x00\x00\x00\x00\x00\x00\x80\x07\x00\x00\x00\x00\x00\
-\x02\x00\x00\x00\x00\x00\x00\x00\x00\x00\x00\x00\x00\x00\x00\x00\x1d\
-\x08\x00\x00\x00\x00\x00\x00\x00\x00\x00\x40\x00\x00\x00\x00\x00\x00\
-\x09\x00\x00\x00\x00\x00\x00\x00\x00\x00\x00\x18\x00\x00\x00\x00\x00\
-\x08\x00\x00\x00\x00\x00\x00\x00\x00\x00\x20\x00\x00\x00\x00\x00\x00\
-\x08\x00\x00\x00\x00\x00\x00\x00\x00\x00\x00\x00\x10\x00\x00\x00\x00\
-\x02\x00\x00\x00\x00\x00\x00\x00\x00\x00\x00\x00\x00\x00\x00\x00\x20\
-\x02\x00\x00\x00\x00\x00\x00\x00\x00\x00\x00\x00\x00\x00\x00\x00\x23\
-\x08\x00\x00\x00\x00\x00\x00\x00\x00\x00\x00\x00\x00\x00\x00\x01\x00\
-\x11\x00\x00\x00\x00\x00\x00\x00\x00\x00\x00\x00\x00\x00\x00\x00\x00\
-\x09\x00\x00\x00\x00\x00\x00\x00\x00\x00\x00\x00\x00\x08\x00\x00\x00\
-\x08\x00\x00\x00\x00\x00\x00\x00\x00\x00\x00\x00\x00\x02\x00\x00\x00\
-\x02\x00\x00\x00\x00\x00\x00\x00\x00\x00\x00\x00\x00\x00\x00\x00\x28\
-\x08\x00\x00\x00\x00\x00\x00\x00\x00\x00\x00\x00\x00\x04\x00\x00\x00\
-\x02\x00\x00\x00\x00\x00\x00\x00\x00\x00\x00\x00\x00\x00\x00\x00\x2a\
-\x08\x00\x00\x00\x00\x00\x00\x00\x00\x00\x00\x00\x00\x00\x04\x00\x00\
-\x02\x00\x00\x00\x00\x00\x00\x00\x00\x00\x00\x00\x00\x00\x00\x00\x2c\
-\x08\x00\x00\x00\x00\x00\x00\x00\x00\x00\x00\x00\x00\x00\x08\x00\x00\
-\x02\x00\x00\x00\x00\x00\x00\x00\x00\x00\x00\x00\x00\x00\x00\x00\x2e\
-\x08\x00\x00\x00\x00\x00\x00\x00\x00\x00\x00\x00\x00\x00\x10\x00\x00\
-\x08\x00\x00\x00\x00\x00\x00\x00\x00\x00\x00\x00\x00\x08\x00\x00\x00\
-\x08\x00\x00\x00\x00\x00\x00\x00\x00\x00\x00\x00\xe0\x01\x00\x00\x00\
-\x01\x00\x00\x00\x00\x00\x00\x00\x00\x00\x01\x00\x00\x00\x00\x00\x00\x00\x00\x00\
-\x01\x00\x00\x00\x00\x00\x00\x00\x00\x00\x01\x00\x00\x00\x00\x00\x00\x00\x00\x00\
-\x01\x00\x00\x00\x00\x00\x00\x00\x00\x00\x01\x00\x00\x00\x00\x00\x00\x00\x00\x00\
-\x01\x00\x00\x00\x00\x00\x00\x00\x00\x00\x01\x00\x00\x00\x00\x00\x00\x00\x00\x00\
-\x01\x00\x00\x00\x00\x00\x00\x00\x00\x00\x01\x00\x00\x00\x00\x00\x00\x00\x00\x00\
-\x04\x01\x05\x00\x00\x00\x00\x00\x00\x00\x01\x00\x00\x00\x00\x00\x00\x00\x00\x00\
-\x01\x00\x00\x00\x00\x00\x00\x00\x00\x00\x01\x00\x00\x00\x00\x00\x00\x00\x00\x00\
-\x01\x00\x00\x00\x00\x00\x00\x00\x00\x00\x01\x00\x00\x00\x00\x00\x00\x00\x00\x00\
-\x01\x00\x00\x00\x00\x00\x00\x00\x00\x00\x01\x00\x00\x00\x00\x00\x00\x00\x00\x00\
-\x01\x00\x00\x00\x00\x00\x00\x00\x00\x00\x01\x00\x00\x00\x00\x00\x00\x00\x00\x00\
-\x01\x00\x00\x00\x00\x00\x00\x00\x00\x00\x01\x00\x00\x00\x00\x00\x00\x00\x00\x00\
-\x01\x00\x00\x00\x00\x00\x00\x00\x00\x00\x01\x00\x00\x00\x00\x00\x00\x00\x00\x00\
-\x01\x00\x00\x00\x00\x00\x00\x00\x00\x00\x01\x00\x00\x00\x00\x00\x00\x00\x00\x00\
-\x01\x00\x00\x00\x00\x00\x00\x00\x00\x00\x01\x00\x00\x00\x00\x00\x00\x00\x00\x00\
-\x01\x00\x00\x00\x00\x00\x00\x00\x00\x00\x01\x00\x00\x00\x00\x00\x00\x00\x00\x00\
-\x01\x00\x00\x00\x00\x00\x00\x00\x00\x00\x01\x00\x00\x00\x00\x00\x00\x00\x00\x00\
-\x01\x02\x06\x07\x00\x00\x00\x00\x00\x00\x01\x01\x08\x00\x00\x00\x00\x00\x00\x00\
-\x01\x03\x06\x06\x08\x00\x00\x00\x00\x00\x01\x02\x08\x08\x00\x00\x00\x00\x00\x00\
-\x01\x01\x08\x00\x00\x00\x00\x00\x00\x00\x04\x06\x06\x06\x08\x09\x0a\x08\x00\x00\
-\x04\x02\x06\x0c\x00\x00\x00\x00\x00\x00\x08\x06\x06\x08\x06\x06\x08\x09\x00\x00\
-\x04\x03\x06\x09\x0d\x00\x00\x00\x00\x00\x02\x03\x06\x09\x0d\x00\x00\x00\x00\x00\
-\x02\x03\x06\x06\x09\x00\x00\x00\x00\x00\x01\x05\x0e\x06\x08\x08\x09\x00\x00\x00\
-\x01\x01\x06\x00\x00\x00\x00\x00\x00\x00\x02\x01\x06\x00\x00\x00\x00\x00\x00\x00\
-\x02\x01\x06\x00\x00\x00\x00\x00\x00\x00\x02\x01\x06\x00\x00\x00\x00\x00\x00\x00\
-\x02\x01\x06\x00\x00\x00\x00\x00\x00\x00\x01\x06\x0e\x0f\x06\x09\x06\x09\x00\x00\
-\x01\x02\x06\x08\x00\x00\x00\x00\x00\x00\x01\x01\x08\x00\x00\x00\x00\x00\x00\x00\
-\x01\x01\x08\x00\x00\x00\x00\x00\x00\x00\x01\x01\x06\x00\x00\x00\x00\x00\x00\x00\
-\x01\x02\x08\x08\x00\x00\x00\x00\x00\x00\x01\x01\x06\x00\x00\x00\x00\x00\x00\x00\
-\x01\x01\x0d\x00\x00\x00\x00\x00\x00\x00\x01\x08\x0e\x08\x06\x08\x09\x10\x08\x09\
-\x01\x02\x08\x08\x00\x00\x00\x00\x00\x00\x02\x02\x11\x12\x00\x00\x00\x00\x00\x00\
-\x04\x04\x11\x11\x08\x13\x00\x00\x00\x00\x02\x01\x11\x00\x00\x00\x00\x00\x00\x00\
-\x04\x05\x06\x15\x15\x15\x15\x00\x00\x00\x02\x01\x06\x00\x00\x00\x00\x00\x00\x00\
-\x02\x01\x11\x00\x00\x00\x00\x00\x00\x00\x01\x00\x00\x00\x00\x00\x00\x00\x00\x00\
-\x01\x00\x00\x00\x00\x00\x00\x00\x00\x00\x01\x00\x00\x00\x00\x00\x00\x00\x00\x00\
-\x01\x00\x00\x00\x00\x00\x00\x00\x00\x00\x01\x00\x00\x00\x00\x00\x00\x00\x00\x00\
-\x01\x00\x00\x00\x00\x00\x00\x00\x00\x00\x01\x00\x00\x00\x00\x00\x00\x00\x00\x00\
-\x01\x00\x00\x00\x00\x00\x00\x00\x00\x00\x01\x00\x00\x00\x00\x00\x00\x00\x00\x00\
-\x01\x00\x00\x00\x00\x00\x00\x00\x00\x00\x01\x00\x00\x00\x00\x00\x00\x00\x00\x00\
-\x01\x00\x00\x00\x00\x00\x00\x00\x00\x00\x01\x00\x00\x00\x00\x00\x00\x00\x00\x00\
-\x01\x00\x00\x00\x00\x00\x00\x00\x00\x00\x01\x00\x00\x00\x00\x00\x00\x00\x00\x00\
-\x01\x04\x0e\x16\x08\x08\x00\x00\x00\x00\x01\x02\x17\x18\x00\x00\x00\x00\x00\x00\
-\x01\x02\x06\x17\x00\x00\x00\x00\x00\x00\x01\x06\x08\x09\x10\x08\x08\x09\x00\x00\
-\x01\x01\x1a\x00\x00\x00\x00\x00\x00\x00\x01\x02\x1b\x1c\x00\x00\x00\x00\x00\x00\
-\x01\x03\x06\x1b\x1e\x00\x00\x00\x00\x00\x01\x03\x06\x08\x08\x00\x00\x00\x00\x00\
-\x01\x03\x06\x09\x08\x00\x00\x00\x00\x00\x01\x02\x0d\x08\x00\x00\x00\x00\x00\x00\
-\x01\x02\x1f\x08\x00\x00\x00\x00\x00\x00\x01\x01\x06\x00\x00\x00\x00\x00\x00\x00\
-\x01\x01\x09\x00\x00\x00\x00\x00\x00\x00\x01\x01\x06\x00\x00\x00\x00\x00\x00\x00\
-\x01\x01\x20\x00\x00\x00\x00\x00\x00\x00\x01\x02\x06\x20\x00\x00\x00\x00\x00\x00\
-\x01\x02\x06\x06\x00\x00\x00\x00\x00\x00\x01\x01\x06\x00\x00\x00\x00\x00\x00\x00\
-\x01\x04\x21\x22\x24\x24\x00\x00\x00\x00\x01\x01\x0d\x00\x00\x00\x00\x00\x00\x00\
-\x01\x03\x06\x25\x09\x00\x00\x00\x00\x00\x02\x02\x09\x08\x00\x00\x00\x00\x00\x00\
-\x01\x02\x09\x08\x00\x00\x00\x00\x00\x00\x01\x02\x06\x24\x00\x00\x00\x00\x00\x00\
-\x01\x03\x09\x26\x08\x00\x00\x00\x00\x00\x01\x03\x06\x09\x09\x00\x00\x00\x00\x00\
-\x03\x03\x06\x09\x0d\x00\x00\x00\x00\x00\x01\x03\x11\x08\x04\x00\x00\x00\x00\x00\
-\x01\x02\x09\x08\x00\x00\x00\x00\x00\x00\x01\x00\x00\x00\x00\x00\x00\x00\x00\x00\
-\x01\x02\x06\x27\x00\x00\x00\x00\x00\x00\x01\x01\x29\x00\x00\x00\x00\x00\x00\x00\
-\x01\x01\x29\x00\x00\x00\x00\x00\x00\x00\x01\x06\x2b\x11\x08\x08\x2d\x08\x00\x00\
-\x01\x02\x06\x2f\x00\x00\x00\x00\x00\x00\x01\x02\x11\x24\x00\x00\x00\x00\x00\x00\
-\x01\x02\x11\x24\x00\x00\x00\x00\x00\x00\x01\x02\x24\x06\x00\x00\x00\x00\x00\x00\
-\x01\x02\x06\x06\x00\x00\x00\x00\x00\x00\x01\x00\x00\x00\x00\x00\x00\x00\x00\x00\
-\x01\x02\x08\x30\x00\x00\x00\x00\x00\x00";
-
-// The table, to be made once and lent.
-pub fn table() -> [u8; 2043]
-    ensures { λ r. ⌜ r ≡ bytes' ⌝ }
+// The kinds below HIGH that may stand in a place, a bit for each.
+fn low_kinds(place: u8) -> u64
+    requires { ⌜ place < classesHeld ⌝ }
+    ensures { λ r. ⌜ r ≡ lowKinds place ⌝ }
 {
-    TABLE
+    match place {
+        0 => 0x0,
+        1 => 0xffffffff0000040a,
+        2 => 0xffffffff00000008,
+        3 => 0x4,
+        4 => 0x20,
+        5 => 0xffffffff00000008,
+        6 => 0x8,
+        7 => 0x8,
+        8 => 0x9,
+        9 => 0x2,
+        10 => 0x2,
+        11 => 0x8,
+        12 => 0x8,
+        13 => 0x8,
+        14 => 0x9,
+        15 => 0x9,
+        16 => 0x9,
+        17 => 0x10,
+        18 => 0x8,
+        19 => 0x2,
+        20 => 0x8,
+        21 => 0x21,
+        22 => 0x8,
+        23 => 0x8,
+        24 => 0x2,
+        25 => 0x8,
+        26 => 0x2,
+        27 => 0x8,
+        28 => 0x2,
+        29 => 0x8,
+        30 => 0x9,
+        31 => 0x8,
+        32 => 0x8,
+        33 => 0x2,
+        34 => 0x2,
+        35 => 0x8,
+        36 => 0x11,
+        37 => 0x9,
+        38 => 0x8,
+        39 => 0x2,
+        40 => 0x8,
+        41 => 0x2,
+        42 => 0x8,
+        43 => 0x2,
+        44 => 0x8,
+        45 => 0x2,
+        46 => 0x8,
+        47 => 0x8,
+        48 => 0x8,
+        _ => 0xffffffffffffffff,
+    }
+}
+
+// The kinds from HIGH on that may stand in a place, a bit for each.
+fn high_kinds(place: u8) -> u64
+    requires { ⌜ place < classesHeld ⌝ }
+    ensures { λ r. ⌜ r ≡ highKinds place ⌝ }
+{
+    match place {
+        0 => 0x0,
+        1 => 0x17fffffffff0001,
+        2 => 0x17fffffffff0001,
+        3 => 0x0,
+        4 => 0x0,
+        5 => 0x1,
+        6 => 0x0,
+        7 => 0x3e0000000,
+        8 => 0x0,
+        9 => 0x0,
+        10 => 0x0,
+        11 => 0x40000000000000,
+        12 => 0xc00000000,
+        13 => 0x10000,
+        14 => 0x400000000000,
+        15 => 0x80000000000000,
+        16 => 0x200000,
+        17 => 0x0,
+        18 => 0x3800000000000,
+        19 => 0x0,
+        20 => 0x20000000000000,
+        21 => 0x0,
+        22 => 0x20000,
+        23 => 0x180000,
+        24 => 0x0,
+        25 => 0x40000,
+        26 => 0x0,
+        27 => 0x7800000,
+        28 => 0x0,
+        29 => 0x400000,
+        30 => 0x18000000,
+        31 => 0x200000,
+        32 => 0x1000000000,
+        33 => 0x0,
+        34 => 0x0,
+        35 => 0x100000000000000,
+        36 => 0x0,
+        37 => 0x80000000000,
+        38 => 0x20000000000,
+        39 => 0x0,
+        40 => 0x40000000000,
+        41 => 0x0,
+        42 => 0x4000000000000,
+        43 => 0x0,
+        44 => 0x8000000000000,
+        45 => 0x0,
+        46 => 0x10000000000000,
+        47 => 0x80000000000,
+        48 => 0x1e000000000,
+        _ => 0xffffffffffffffff,
+    }
 }
 
 // Whether a record of a kind may stand in a place.
-pub fn allowed(table: &[u8], place: u8, kind: u16) -> bool
-    ensures { λ r. ⌜ r ≡ allowedIn (now (table .entry)) place kind ⌝ }
+pub fn allowed(place: u8, kind: u16) -> bool
+    requires { ⌜ place < classesHeld ⌝ }
+    ensures { λ r. ⌜ r ≡ allowed' (classAt place) kind ⌝ }
 {
+    if kind < HIGH {
+        return (low_kinds(place) >> kind as u64) % 2 == 1;
+    }
     if KINDS <= kind {
         return false;
     }
-    let k = kind as usize;
-    let set = spelling::byte(table, place as usize * PLACE + k / 8);
-    (set >> (k % 8)) % 2 == 1
+    (high_kinds(place) >> (kind - HIGH) as u64) % 2 == 1
 }
 
 // The place of each element, where a LIST stands in a place.
-pub fn element(table: &[u8], place: u8) -> usize
-    ensures { λ r. ⌜ r ≡ elementIn (now (table .entry)) place ⌝ }
+pub fn element(place: u8) -> u8
+    requires { ⌜ place < classesHeld ⌝ }
+    ensures { λ r. ⌜ r ≡ elementOf place ⌝ }
 {
-    spelling::byte(table, place as usize * PLACE + ELEMENT)
+    match place {
+        0 => 0,
+        1 => 2,
+        2 => 0,
+        3 => 0,
+        4 => 0,
+        5 => 0,
+        6 => 0,
+        7 => 0,
+        8 => 0,
+        9 => 6,
+        10 => 11,
+        11 => 0,
+        12 => 0,
+        13 => 0,
+        14 => 0,
+        15 => 0,
+        16 => 0,
+        17 => 0,
+        18 => 0,
+        19 => 20,
+        20 => 0,
+        21 => 0,
+        22 => 0,
+        23 => 0,
+        24 => 25,
+        25 => 0,
+        26 => 9,
+        27 => 0,
+        28 => 29,
+        29 => 0,
+        30 => 0,
+        31 => 0,
+        32 => 0,
+        33 => 32,
+        34 => 35,
+        35 => 0,
+        36 => 0,
+        37 => 0,
+        38 => 0,
+        39 => 40,
+        40 => 0,
+        41 => 42,
+        42 => 0,
+        43 => 44,
+        44 => 0,
+        45 => 46,
+        46 => 0,
+        47 => 0,
+        48 => 0,
+        _ => 255,
+    }
 }
 
-// The number that a kind's flags are below.
-pub fn flags_below(table: &[u8], kind: u16) -> usize
-    ensures { λ r. ⌜ r ≡ flagsIn (now (table .entry)) kind ⌝ }
+// A kind's rule: the number that its flags are below, and from SLOTS on how many slots it has.
+pub fn rule(kind: u16) -> u16
+    requires { ⌜ kind < kindsHeld ⌝ }
+    ensures { λ r. ⌜ r ≡ ruleOf kind ⌝ }
 {
-    spelling::byte(table, KINDS_AT + kind as usize * KIND)
+    match kind {
+        0 => 0x001,
+        1 => 0x001,
+        2 => 0x001,
+        3 => 0x001,
+        4 => 0x001,
+        5 => 0x001,
+        6 => 0x001,
+        7 => 0x001,
+        8 => 0x001,
+        9 => 0x001,
+        10 => 0x104,
+        11 => 0x001,
+        12 => 0x001,
+        13 => 0x001,
+        14 => 0x001,
+        15 => 0x001,
+        16 => 0x001,
+        17 => 0x001,
+        18 => 0x001,
+        19 => 0x001,
+        20 => 0x001,
+        21 => 0x001,
+        22 => 0x001,
+        23 => 0x001,
+        24 => 0x001,
+        25 => 0x001,
+        26 => 0x001,
+        27 => 0x001,
+        28 => 0x001,
+        29 => 0x001,
+        30 => 0x001,
+        31 => 0x001,
+        32 => 0x201,
+        33 => 0x101,
+        34 => 0x301,
+        35 => 0x201,
+        36 => 0x101,
+        37 => 0x604,
+        38 => 0x204,
+        39 => 0x608,
+        40 => 0x304,
+        41 => 0x302,
+        42 => 0x302,
+        43 => 0x501,
+        44 => 0x101,
+        45 => 0x102,
+        46 => 0x102,
+        47 => 0x102,
+        48 => 0x102,
+        49 => 0x601,
+        50 => 0x201,
+        51 => 0x101,
+        52 => 0x101,
+        53 => 0x101,
+        54 => 0x201,
+        55 => 0x101,
+        56 => 0x101,
+        57 => 0x801,
+        58 => 0x201,
+        59 => 0x202,
+        60 => 0x404,
+        61 => 0x102,
+        62 => 0x504,
+        63 => 0x102,
+        64 => 0x102,
+        65 => 0x001,
+        66 => 0x001,
+        67 => 0x001,
+        68 => 0x001,
+        69 => 0x001,
+        70 => 0x001,
+        71 => 0x001,
+        72 => 0x001,
+        73 => 0x001,
+        74 => 0x001,
+        75 => 0x001,
+        76 => 0x001,
+        77 => 0x001,
+        78 => 0x001,
+        79 => 0x001,
+        80 => 0x401,
+        81 => 0x201,
+        82 => 0x201,
+        83 => 0x601,
+        84 => 0x101,
+        85 => 0x201,
+        86 => 0x301,
+        87 => 0x301,
+        88 => 0x301,
+        89 => 0x201,
+        90 => 0x201,
+        91 => 0x101,
+        92 => 0x101,
+        93 => 0x101,
+        94 => 0x101,
+        95 => 0x201,
+        96 => 0x201,
+        97 => 0x101,
+        98 => 0x401,
+        99 => 0x101,
+        100 => 0x301,
+        101 => 0x202,
+        102 => 0x201,
+        103 => 0x201,
+        104 => 0x301,
+        105 => 0x301,
+        106 => 0x303,
+        107 => 0x301,
+        108 => 0x201,
+        109 => 0x001,
+        110 => 0x201,
+        111 => 0x101,
+        112 => 0x101,
+        113 => 0x601,
+        114 => 0x201,
+        115 => 0x201,
+        116 => 0x201,
+        117 => 0x201,
+        118 => 0x201,
+        119 => 0x001,
+        120 => 0x201,
+        _ => 0xffff,
+    }
 }
 
-// How many slots a kind has.
-pub fn slots(table: &[u8], kind: u16) -> usize
-    ensures { λ r. ⌜ r ≡ slotsIn (now (table .entry)) kind ⌝ }
+// The places of a kind's slots, a byte each, the first slot's the lowest.
+fn places(kind: u16) -> u64
+    requires { ⌜ kind < kindsHeld ⌝ }
+    ensures { λ r. ⌜ r ≡ placesOf kind ⌝ }
 {
-    spelling::byte(table, KINDS_AT + kind as usize * KIND + SLOTS)
+    match kind {
+        0 => 0x0,
+        1 => 0x0,
+        2 => 0x0,
+        3 => 0x0,
+        4 => 0x0,
+        5 => 0x0,
+        6 => 0x0,
+        7 => 0x0,
+        8 => 0x0,
+        9 => 0x0,
+        10 => 0x5,
+        11 => 0x0,
+        12 => 0x0,
+        13 => 0x0,
+        14 => 0x0,
+        15 => 0x0,
+        16 => 0x0,
+        17 => 0x0,
+        18 => 0x0,
+        19 => 0x0,
+        20 => 0x0,
+        21 => 0x0,
+        22 => 0x0,
+        23 => 0x0,
+        24 => 0x0,
+        25 => 0x0,
+        26 => 0x0,
+        27 => 0x0,
+        28 => 0x0,
+        29 => 0x0,
+        30 => 0x0,
+        31 => 0x0,
+        32 => 0x706,
+        33 => 0x8,
+        34 => 0x80606,
+        35 => 0x808,
+        36 => 0x8,
+        37 => 0x80a09080606,
+        38 => 0xc06,
+        39 => 0x90806060806,
+        40 => 0xd0906,
+        41 => 0xd0906,
+        42 => 0x90606,
+        43 => 0x90808060e,
+        44 => 0x6,
+        45 => 0x6,
+        46 => 0x6,
+        47 => 0x6,
+        48 => 0x6,
+        49 => 0x90609060f0e,
+        50 => 0x806,
+        51 => 0x8,
+        52 => 0x8,
+        53 => 0x6,
+        54 => 0x808,
+        55 => 0x6,
+        56 => 0xd,
+        57 => 0x90810090806080e,
+        58 => 0x808,
+        59 => 0x1211,
+        60 => 0x13081111,
+        61 => 0x11,
+        62 => 0x1515151506,
+        63 => 0x6,
+        64 => 0x11,
+        65 => 0x0,
+        66 => 0x0,
+        67 => 0x0,
+        68 => 0x0,
+        69 => 0x0,
+        70 => 0x0,
+        71 => 0x0,
+        72 => 0x0,
+        73 => 0x0,
+        74 => 0x0,
+        75 => 0x0,
+        76 => 0x0,
+        77 => 0x0,
+        78 => 0x0,
+        79 => 0x0,
+        80 => 0x808160e,
+        81 => 0x1817,
+        82 => 0x1706,
+        83 => 0x90808100908,
+        84 => 0x1a,
+        85 => 0x1c1b,
+        86 => 0x1e1b06,
+        87 => 0x80806,
+        88 => 0x80906,
+        89 => 0x80d,
+        90 => 0x81f,
+        91 => 0x6,
+        92 => 0x9,
+        93 => 0x6,
+        94 => 0x20,
+        95 => 0x2006,
+        96 => 0x606,
+        97 => 0x6,
+        98 => 0x24242221,
+        99 => 0xd,
+        100 => 0x92506,
+        101 => 0x809,
+        102 => 0x809,
+        103 => 0x2406,
+        104 => 0x82609,
+        105 => 0x90906,
+        106 => 0xd0906,
+        107 => 0x40811,
+        108 => 0x809,
+        109 => 0x0,
+        110 => 0x2706,
+        111 => 0x29,
+        112 => 0x29,
+        113 => 0x82d0808112b,
+        114 => 0x2f06,
+        115 => 0x2411,
+        116 => 0x2411,
+        117 => 0x624,
+        118 => 0x606,
+        119 => 0x0,
+        120 => 0x3008,
+        _ => 0xffffffffffffffff,
+    }
 }
 
 // The place of a slot of a kind.
-pub fn slot(table: &[u8], kind: u16, s: u8) -> usize
-    ensures { λ r. ⌜ r ≡ slotIn (now (table .entry)) kind s ⌝ }
+pub fn slot(kind: u16, s: u16) -> u8
+    requires { ⌜ (kind < kindsHeld) × (s < length (slotsOf (shape kind))) ⌝ }
+    ensures { λ r. ⌜ r ≡ slotOf kind s ⌝ }
 {
-    spelling::byte(table, KINDS_AT + kind as usize * KIND + FIRST + s as usize)
+    ((places(kind) >> (BITS * s) as u64) % BYTE) as u8
 }

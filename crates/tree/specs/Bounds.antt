@@ -57,7 +57,7 @@ neither : (a b : Bool) → (a || b) ≡ false → (a ≡ false) × (b ≡ false)
 neither true b h = absurd (false≢true (sym h))
 neither false b h = (refl, h)
 
-tree-short : (t : List ℕ) → malformed t ≡ false → length t ≤ longest
+pub tree-short : (t : List ℕ) → malformed t ≡ false → length t ≤ longest
 unfolding malformed
 tree-short t h =
     ltb-false longest (length t) (neither (ltb longest (length t)) _ (neither (eqb (length t) 0) _ h .1) .0)

@@ -1,28 +1,26 @@
 -- Laws of the check of one record: what each way through the tests of a record comes to.
-use Prim.Native.Nat.{ℕ, _+_, _-_, _%_, _<_}
+use Prim.Native.Nat.{ℕ, _+_, _-_, _/_, _%_, _≤_, _<_}
 use native.Mathlib.Omega.{arith}
 use mathlib.Core.Path.{_≡_, refl, _∙_, ap, sym}
 use mathlib.Core.List.{List, [], _∷_}
-use mathlib.Core.Bool.{Bool, true, false, not, cond, _&&_, _||_, Bool·beq, false≢true, and-true}
+use mathlib.Core.Bool.{Bool, true, false, not, cond, _&&_, _||_, Bool·beq, false≢true, and-true, or-false}
 use lib.Dec.{leb, ltb, eqb}
 use lib.ListN.{length, replicate, length-replicate}
-use borrow.Author.Tests.{eqb-true, eq-eqb, ne-eqb, lt-ltb, le-ltb, not-true, not-false}
+use borrow.Author.Tests.{eqb-true, eq-eqb, ne-eqb, lt-ltb, le-ltb, lt-leb, le-leb, not-true, not-false}
 use Rattle.laws.specs.Below.{below, at}
 use Rattle.utf8.specs.Rfc3629.{boundary}
 use Rattle.spelling.specs.Spelling.{known}
 use Rattle.record.specs.declared.Record.{Record}
-use Rattle.grammar.specs.Kind.{LIST, TOKEN, RUN}
+use Rattle.grammar.specs.Kind.{LIST, TOKEN, RUN, TEXT, NUMBER}
 use Rattle.grammar.specs.Shape.{Class, one, list, oneOr, small}
 use Rattle.grammar.specs.Grammar.{shape}
 use Rattle.grammar.specs.Slots.{slotsOf, allowed, elements}
 use Rattle.grammar.specs.Classes.{classes, classesHeld, classAt, tokenAt, token-is, smallAt}
-use Rattle.grammar.specs.Bytes.{bytes}
-use Rattle.grammar.specs.Table.{allowedIn, flagsIn, slotsIn}
-use Rattle.grammar.specs.Laws.{kindsHeld, allowed-is, allowed-held, flags-are, slots-are}
-use Rattle.tree.specs.Check.{place, holds, flagsFit, hasPart, fieldsFit, rangeFits, fits, inside, faults, deepest}
-use Rattle.tree.specs.declared.Answer.the-variants.{Mark, Misfit, Outside, Deep}
-use Rattle.tree.specs.declared.Fault.the-variants.{Fine, Is}
-use Rattle.tree.specs.Walk.{faultIn}
+use Rattle.grammar.specs.Packed.{kindsHeld, ruleOf}
+use Rattle.grammar.specs.Laws.{allowed-held, rule-flags, rule-slots}
+use Rattle.tree.specs.Check.{holds, flagsFit, hasPart, fieldsFit, rangeFits, fits, inside}
+use Rattle.tree.specs.declared.Answer.the-variants.{Mark, Misfit, Outside, Deep, Ends}
+use Rattle.tree.specs.Walk.{refused, answerOf, faultOf}
 
 -- ---- only one place is narrow
 narrow : Class → Bool
@@ -57,9 +55,17 @@ unfolding classAt classes rangeFits
 range-small n r e = rw e
 
 -- ---- flags and children
-pub flags-table : (t : List ℕ) (r : Record) (m : ℕ) → t ≡ bytes → r .kind < kindsHeld → (r .kind ≡ TOKEN → ⊥) → m ≡ flagsIn t (r .kind) → ltb (r .flags) m ≡ flagsFit r
+pub flags-token : (r : Record) (b : Bool) → r .kind ≡ TOKEN → b ≡ known (r .flags % 0x8000) → b ≡ flagsFit r
 unfolding flagsFit
-flags-table t r m e h k q = rw (ne-eqb (r .kind) TOKEN k, q, e, flags-are (r .kind) h)
+flags-token r b k e = rw (eq-eqb (r .kind) TOKEN k) e
+
+pub flags-rule : (m : ℕ) (r : Record) → m ≡ ruleOf (r .kind) → r .kind < kindsHeld → (r .kind ≡ TOKEN → ⊥) → ltb (r .flags) (m % 256) ≡ flagsFit r
+unfolding flagsFit
+flags-rule m r e h k = rw (ne-eqb (r .kind) TOKEN k, e, rule-flags (r .kind) h)
+
+-- b tells whether a record has as many children as it must, in whatever place
+abbrev pub Counts : Record → Bool → Type 0
+Counts r b = (c : Class) → b ≡ eqb (r .kids) (length (holds c r))
 
 pub any-count : (c : Class) (r : Record) → (eqb (r .kind) LIST || eqb (r .kind) RUN) ≡ true → true ≡ eqb (r .kids) (length (holds c r))
 unfolding holds
@@ -81,27 +87,37 @@ holds-slots c r h = by (eqb (r .kind) LIST) (eqb (r .kind) RUN) h
     by false true e = absurd (false≢true (sym e))
     by false false e = refl
 
-pub slot-count : (t : List ℕ) (c : Class) (r : Record) (m : ℕ) → t ≡ bytes → r .kind < kindsHeld → (eqb (r .kind) LIST || eqb (r .kind) RUN) ≡ false → m ≡ slotsIn t (r .kind)
-    → eqb (r .kids) m ≡ eqb (r .kids) (length (holds c r))
-slot-count t c r m e h k q = rw (holds-slots c r k, q, e, slots-are (r .kind) h)
+pub slot-count : (m : ℕ) (r : Record) → m ≡ ruleOf (r .kind) → r .kind < kindsHeld → (eqb (r .kind) LIST || eqb (r .kind) RUN) ≡ false → Counts r (eqb (r .kids) (m / 256))
+slot-count m r e h k c = rw (holds-slots c r k, e, rule-slots (r .kind) h)
 
 -- ---- the record in its place
-pub not-allowed : (t : List ℕ) (n : ℕ) (r : Record) (b : Bool) → t ≡ bytes → n < classesHeld → b ≡ allowedIn t n (r .kind) → not b ≡ true → false ≡ fits (classAt n) r
-unfolding fits
-not-allowed t n r b e h q z =
-    let f : allowed (classAt n) (r .kind) ≡ false = sym (allowed-is n (r .kind) h) ∙ sym (q ∙ ap (λ (l : List ℕ). allowedIn l n (r .kind)) e) ∙ not-true b z in
-    rw f
+pub kind-held : (n : ℕ) (r : Record) (b : Bool) → n < classesHeld → b ≡ allowed (classAt n) (r .kind) → not b ≡ false → r .kind < kindsHeld
+kind-held n r b h q z = allowed-held n (r .kind) h (sym q ∙ not-false b z)
 
-allows : (t : List ℕ) (n : ℕ) (r : Record) (b : Bool) → t ≡ bytes → n < classesHeld → b ≡ allowedIn t n (r .kind) → not b ≡ false → allowed (classAt n) (r .kind) ≡ true
-allows t n r b e h q z = sym (allowed-is n (r .kind) h) ∙ sym (q ∙ ap (λ (l : List ℕ). allowedIn l n (r .kind)) e) ∙ not-false b z
+-- the tests of a record in a place, one behind the other: each that fails, and all
+module _ (c : Class) (r : Record) (a : Bool) (ae : a ≡ allowed c (r .kind)) where
+  pub not-allowed : not a ≡ true → false ≡ fits c r
+  unfolding fits
+  not-allowed z = rw (← ae, not-true a z)
 
-pub kind-held : (t : List ℕ) (n : ℕ) (r : Record) (b : Bool) → t ≡ bytes → n < classesHeld → b ≡ allowedIn t n (r .kind) → not b ≡ false → r .kind < kindsHeld
-kind-held t n r b e h q z = allowed-held n (r .kind) h (allows t n r b e h q z)
+  module _ (az : not a ≡ false) (k : Bool) (ke : k ≡ eqb (r .kids) (length (holds c r))) where
+    pub miscounted : not k ≡ true → false ≡ fits c r
+    unfolding fits
+    miscounted z = rw (← ae, not-false a az, ← ke, not-true k z)
 
-pub all-fit : (t : List ℕ) (n : ℕ) (r : Record) (b k f d g : Bool) → t ≡ bytes → n < classesHeld → b ≡ allowedIn t n (r .kind) → not b ≡ false
-    → k ≡ eqb (r .kids) (length (holds (classAt n) r)) → f ≡ flagsFit r → d ≡ fieldsFit r → g ≡ rangeFits (classAt n) r → (k && (f && (d && g))) ≡ fits (classAt n) r
-unfolding fits
-all-fit t n r b k f d g e h q z ke fe de ge = rw (allows t n r b e h q z, ke, fe, de, ge)
+    module _ (kz : not k ≡ false) (f : Bool) (fe : f ≡ flagsFit r) where
+      pub flags-off : not f ≡ true → false ≡ fits c r
+      unfolding fits
+      flags-off z = rw (← ae, not-false a az, ← ke, not-false k kz, ← fe, not-true f z)
+
+      module _ (fz : not f ≡ false) (d : Bool) (de : d ≡ fieldsFit r) where
+        pub fields-off : not d ≡ true → false ≡ fits c r
+        unfolding fits
+        fields-off z = rw (← ae, not-false a az, ← ke, not-false k kz, ← fe, not-false f fz, ← de, not-true d z)
+
+        pub all-fit : not d ≡ false → (g : Bool) → g ≡ rangeFits c r → g ≡ fits c r
+        unfolding fits
+        all-fit z g ge = rw (← ae, not-false a az, ← ke, not-false k kz, ← fe, not-false f fz, ← de, not-false d z) ge
 
 -- ---- a TOKEN has no children
 token-slots : slotsOf (shape TOKEN) ≡ []
@@ -114,47 +130,108 @@ token-holds c r k =
     let s : slotsOf (shape (r .kind)) ≡ [] = ap (λ (n : ℕ). slotsOf (shape n)) k ∙ token-slots in
     rw (ne-eqb (r .kind) LIST (λ z. omega arith), ne-eqb (r .kind) RUN (λ z. omega arith), s)
 
--- what the place of a RUN's TOKENs asks, without the table
-pub token-fit : (r : Record) (b d : Bool) → b ≡ known (r .flags % 0x8000) → d ≡ fieldsFit r → (eqb (r .kind) TOKEN && (eqb (r .kids) 0 && (b && d))) ≡ fits (classAt tokenAt) r
-unfolding fits flagsFit rangeFits allowed
-token-fit r b d be de = rw (be, de, token-is) (by (eqb (r .kind) TOKEN) refl)
-  where
-    by : (t : Bool) → eqb (r .kind) TOKEN ≡ t → (eqb (r .kind) TOKEN && (eqb (r .kids) 0 && (known (r .flags % 0x8000) && fieldsFit r))) ≡ fits (one (TOKEN ∷ [])) r
-    by true e =
-        rw (e, token-holds (one (TOKEN ∷ [])) r (eqb-true (r .kind) TOKEN e), and-true)
-    by false e = rw e
+-- what the place of a RUN's TOKENs asks
+module _ (r : Record) where
+  pub no-token : (r .kind ≡ TOKEN → ⊥) → false ≡ fits (classAt tokenAt) r
+  unfolding fits allowed
+  no-token h = rw (token-is, ne-eqb (r .kind) TOKEN h)
+
+  module _ (t : r .kind ≡ TOKEN) where
+    token-tests : fits (classAt tokenAt) r ≡ (eqb (r .kids) 0 && (known (r .flags % 0x8000) && fieldsFit r))
+    unfolding fits flagsFit rangeFits allowed
+    token-tests = rw (token-is, token-holds (one (TOKEN ∷ [])) r t, eq-eqb (r .kind) TOKEN t, and-true)
+
+    pub token-kids : (r .kids ≡ 0 → ⊥) → false ≡ fits (classAt tokenAt) r
+    token-kids h = rw (token-tests, ne-eqb (r .kids) 0 h)
+
+    module _ (k : r .kids ≡ 0) (b : Bool) (be : b ≡ known (r .flags % 0x8000)) where
+      pub token-unknown : not b ≡ true → false ≡ fits (classAt tokenAt) r
+      token-unknown h = rw (token-tests, eq-eqb (r .kids) 0 k, ← be, not-true b h)
+
+      pub token-fit : not b ≡ false → (d : Bool) → d ≡ fieldsFit r → d ≡ fits (classAt tokenAt) r
+      token-fit h d de = rw (token-tests, eq-eqb (r .kids) 0 k, ← be, not-false b h) de
 
 -- ---- the text part
-pub no-part : (x : List ℕ) (r : Record) (b : Bool) → b ≡ hasPart r → not b ≡ true → true ≡ inside x r
-unfolding inside
-no-part x r b e h = rw (← e, h)
+module _ (r : Record) where
+  pub token-part : r .kind ≡ TOKEN → leb 0x8000 (r .flags) ≡ hasPart r
+  unfolding hasPart
+  token-part e = rw e
 
-pub a-part : (x : List ℕ) (r : Record) (b p q : Bool) → b ≡ hasPart r → not b ≡ false → p ≡ boundary x (r .start) → q ≡ boundary x (r .start + r .len)
-    → (leb (r .start + r .len) (length x) && (p && q)) ≡ inside x r
-unfolding inside
-a-part x r b p q e h pe qe = rw (← e, h, pe, qe)
+  pub other-part : (r .kind ≡ TOKEN → ⊥) → eqb (r .kind) TEXT ≡ hasPart r
+  unfolding hasPart
+  other-part e = rw (ne-eqb (r .kind) TOKEN e, or-false)
 
--- ---- the first fault
-module _ (x : List ℕ) (r : Record) (i left : ℕ) (k : Class) where
-  pub bad-mark : (r .mark ≡ 0x4E53 → ⊥) → Is (Mark i) ≡ faultIn x r i (place (65 - left) k)
-  unfolding faultIn faults
+  module _ (b : Bool) (be : b ≡ hasPart r) where
+    pub part-fits : b ≡ true → true ≡ fieldsFit r
+    unfolding fieldsFit
+    part-fits h = rw (← be, h)
+
+    module _ (z : b ≡ false) where
+      pub number-fits : r .kind ≡ NUMBER → true ≡ fieldsFit r
+      unfolding fieldsFit
+      number-fits e = rw (← be, z, eq-eqb (r .kind) NUMBER e)
+
+      pub zero-fits : (r .kind ≡ NUMBER → ⊥) → (eqb (r .start) 0 && eqb (r .len) 0) ≡ fieldsFit r
+      unfolding fieldsFit
+      zero-fits e = rw (← be, z, ne-eqb (r .kind) NUMBER e)
+
+    module _ (x : List ℕ) where
+      pub no-part : not b ≡ true → true ≡ inside x r
+      unfolding inside
+      no-part h = rw (← be, h)
+
+      module _ (h : not b ≡ false) where
+        pub past-text : length x < r .start + r .len → false ≡ inside x r
+        unfolding inside
+        past-text l = rw (← be, h, lt-leb (r .start + r .len) (length x) l)
+
+        pub a-part : (p q : Bool) → r .start + r .len ≤ length x → p ≡ boundary x (r .start) → q ≡ boundary x (r .start + r .len) → (p && q) ≡ inside x r
+        unfolding inside
+        a-part p q l pe qe = rw (← be, h, le-leb (r .start + r .len) (length x) l, pe, qe)
+
+-- ---- the number of the first fault
+module _ (x : List ℕ) (r : Record) (left : ℕ) (fit : Bool) where
+  pub bad-mark : (r .mark ≡ 0x4E53 → ⊥) → 3 ≡ faultOf x r left fit
+  unfolding faultOf
   bad-mark h = rw (ne-eqb (r .mark) 0x4E53 h)
 
-  module _ (m : r .mark ≡ 0x4E53) (b : Bool) (fe : b ≡ fits k r) where
-    pub misfit : not b ≡ true → Is (Misfit i) ≡ faultIn x r i (place (65 - left) k)
-    unfolding faultIn faults
-    misfit h = rw (eq-eqb (r .mark) 0x4E53 m, ← fe, h)
+  module _ (m : r .mark ≡ 0x4E53) where
+    pub misfit : not fit ≡ true → 4 ≡ faultOf x r left fit
+    unfolding faultOf
+    misfit h = rw (eq-eqb (r .mark) 0x4E53 m, h)
 
-    module _ (f : not b ≡ false) (d : Bool) (de : d ≡ inside x r) where
-      pub outside : not d ≡ true → Is (Outside i) ≡ faultIn x r i (place (65 - left) k)
-      unfolding faultIn faults
-      outside h = rw (eq-eqb (r .mark) 0x4E53 m, ← fe, f, ← de, h)
+    module _ (f : not fit ≡ false) (d : Bool) (de : d ≡ inside x r) where
+      pub outside : not d ≡ true → 5 ≡ faultOf x r left fit
+      unfolding faultOf
+      outside h = rw (eq-eqb (r .mark) 0x4E53 m, f, ← de, h)
 
       module _ (g : not d ≡ false) where
-        pub deep : left ≡ 0 → Is (Deep i) ≡ faultIn x r i (place (65 - left) k)
-        unfolding faultIn faults
-        deep h = rw (eq-eqb (r .mark) 0x4E53 m, ← fe, f, ← de, g, lt-ltb deepest (65 - left) (omega arith))
+        pub deep : left ≡ 0 → 6 ≡ faultOf x r left fit
+        unfolding faultOf
+        deep h = rw (eq-eqb (r .mark) 0x4E53 m, f, ← de, g, eq-eqb left 0 h)
 
-        pub fine : (left ≡ 0 → ⊥) → Fine ≡ faultIn x r i (place (65 - left) k)
-        unfolding faultIn faults
-        fine h = rw (eq-eqb (r .mark) 0x4E53 m, ← fe, f, ← de, g, le-ltb deepest (65 - left) (omega arith))
+        pub fine : (left ≡ 0 → ⊥) → 0 ≡ faultOf x r left fit
+        unfolding faultOf
+        fine h = rw (eq-eqb (r .mark) 0x4E53 m, f, ← de, g, ne-eqb left 0 h)
+
+-- ---- the answer of a walk's number
+module _ (w : ℕ) where
+  pub is-mark : w / refused ≡ 3 → Mark (w % refused) ≡ answerOf w
+  unfolding answerOf
+  is-mark e = rw e
+
+  pub is-misfit : w / refused ≡ 4 → Misfit (w % refused) ≡ answerOf w
+  unfolding answerOf
+  is-misfit e = rw e
+
+  pub is-outside : w / refused ≡ 5 → Outside (w % refused) ≡ answerOf w
+  unfolding answerOf
+  is-outside e = rw e
+
+  pub is-deep : w / refused ≡ 6 → Deep (w % refused) ≡ answerOf w
+  unfolding answerOf
+  is-deep e = rw e
+
+  pub is-ends : (w / refused ≡ 3 → ⊥) → (w / refused ≡ 4 → ⊥) → (w / refused ≡ 5 → ⊥) → (w / refused ≡ 6 → ⊥) → Ends (w % refused) ≡ answerOf w
+  unfolding answerOf
+  is-ends a b c d = rw (ne-eqb (w / refused) 3 a, ne-eqb (w / refused) 4 b, ne-eqb (w / refused) 5 c, ne-eqb (w / refused) 6 d)

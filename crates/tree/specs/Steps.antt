@@ -1,108 +1,123 @@
--- Laws of the walk on child records: one for each way through the four functions that call each other.
-use Prim.Native.Nat.{ℕ, suc, _+_, _-_, _≤_, _<_}
+-- Laws of the walk on child records: the places of a record's children, and the way along them.
+use Prim.Native.Nat.{ℕ, zero, suc, _+_, _-_, _≤_, _<_}
 use native.Mathlib.Omega.{arith}
 use native.Mathlib.Numerals.{add-one}
 use mathlib.Core.Path.{_≡_, refl, _∙_, ap, sym}
 use mathlib.Core.List.{List, [], _∷_, _++_, map}
-use lib.ListN.{length, drop, replicate, drop-of-length-le}
-use lib.Seq.{drop-cons}
-use mathlib.Core.Bool.{Bool, true, false, _||_}
+use mathlib.Core.Bool.{Bool, true, false, cond, _&&_, _||_}
 use lib.Dec.{eqb}
-use borrow.Author.Tests.{eqb-true, eq-eqb, ne-eqb, ltb-false, not-false}
-use Rattle.laws.specs.First.{AllPassed, all-passed}
-use Rattle.laws.specs.Tests.{and-left}
-use Rattle.record.specs.Record.{recordAt, count}
+use lib.ListN.{length, getD, drop, replicate, drop-of-length-le, getD-replicate, length-replicate}
+use lib.Seq.{drop-cons}
+use borrow.Author.Tests.{eqb-true, eq-eqb, ne-eqb}
+use Rattle.laws.specs.Tests.{and-left, and-right}
+use Rattle.record.specs.Record.{count}
 use Rattle.record.specs.declared.Record.{Record}
 use Rattle.grammar.specs.Kind.{LIST, RUN, TOKEN}
 use Rattle.grammar.specs.Shape.{Class, one}
 use Rattle.grammar.specs.Grammar.{shape}
 use Rattle.grammar.specs.Slots.{slotsOf, allowed, elements}
 use Rattle.grammar.specs.Classes.{classesHeld, classAt, tokenAt, token-is}
-use Rattle.grammar.specs.Bytes.{bytes}
-use Rattle.grammar.specs.Table.{elementIn, slotsIn, slotIn}
-use Rattle.grammar.specs.Laws.{kindsHeld, allowed-held, element-held, element-is, slots-are, slots-few, slot-held, slot-is}
-use Rattle.tree.specs.Check.{Place, place, holds, fits, faults, deepest, scan}
+use Rattle.grammar.specs.Packed.{kindsHeld, elementOf, slotOf}
+use Rattle.grammar.specs.Laws.{allowed-held, element-held, element-is, slot-held, slot-is}
+use Rattle.tree.specs.Check.{Place, place, holds, fits, scan}
 use Rattle.tree.specs.Laws.{token-holds}
-use Rattle.tree.specs.declared.Answer.{Answer}
-use Rattle.tree.specs.declared.Walk.{Walk}
-use Rattle.tree.specs.declared.Walk.the-variants.{Next, Refused}
-use Rattle.tree.specs.declared.Fault.{Fault}
-use Rattle.tree.specs.declared.Fault.the-variants.{Fine, Is}
-use Rattle.tree.specs.Walk.{Walks, resumed, faultIn, same-fault, not-fine, goes-down}
+use Rattle.tree.specs.Walk.{refused, Walks, resumed, resumed-next, resumed-refused}
 
--- ---- what is known of a record with no fault
-module _ (x : List ℕ) (r : Record) (i n left : ℕ) (f : Fault) (found : f ≡ faultIn x r i (place (65 - left) (classAt n))) (e : f ≡ Fine) where
-  passed : AllPassed (faults x r i (place (65 - left) (classAt n)))
-  unfolding faultIn
-  passed = all-passed Is Fine same-fault not-fine (faults x r i (place (65 - left) (classAt n))) (sym e ∙ found)
+-- the places of the n children of a kind: e is the place of a LIST's elements
+unfoldable pub children : ℕ → ℕ → ℕ → List Class
+children e k n = cond (eqb k LIST) (replicate n (classAt e)) (slotsOf (shape k))
 
-  pub fine-left : 1 ≤ left
-  unfolding faults
-  fine-left = omega (arith, ltb-false deepest (65 - left) (passed .1 .1 .1 .0))
+-- the place of child s
+unfoldable pub childAt : ℕ → ℕ → ℕ → Class
+childAt e k s = cond (eqb k LIST) (classAt e) (getD (slotsOf (shape k)) s (one []))
 
-  pub fine-kind : n < classesHeld → r .kind < kindsHeld
-  unfolding faults fits
-  fine-kind h = allowed-held n (r .kind) h (and-left (allowed (classAt n) (r .kind)) _ (not-false _ (passed .1 .0)))
+-- a kind that is no LIST has a slot s
+abbrev pub Slotted : ℕ → ℕ → Type 0
+Slotted k s = (k ≡ LIST → ⊥) → s < length (slotsOf (shape k))
 
--- in a TOKEN's place it is one
-fine-token : (x : List ℕ) (r : Record) (i left : ℕ) (f : Fault) → f ≡ faultIn x r i (place (65 - left) (classAt tokenAt)) → f ≡ Fine → r .kind ≡ TOKEN
-unfolding faults fits allowed
-fine-token x r i left f found e =
-    let a : allowed (classAt tokenAt) (r .kind) ≡ true = and-left (allowed (classAt tokenAt) (r .kind)) _ (not-false _ (passed x r i tokenAt left f found e .1 .0)) in
-    eqb-true (r .kind) TOKEN (only (eqb (r .kind) TOKEN) (rw token-is at a))
+-- ---- one child
+pub list-child : (e k s : ℕ) → k ≡ LIST → classAt e ≡ childAt e k s
+unfolding childAt
+list-child e k s h = rw (eq-eqb k LIST h)
+
+module _ (k s : ℕ) (h : k < kindsHeld) (l : Slotted k s) (ne : k ≡ LIST → ⊥) (p : ℕ) (named : p ≡ slotOf k s) where
+  pub slot-small : p < classesHeld
+  slot-small = rw named (slot-held k h s (l ne))
+
+  pub slot-child : (e : ℕ) → classAt p ≡ childAt e k s
+  unfolding childAt
+  slot-child e = rw (ne-eqb k LIST ne, named) (slot-is k h s (l ne))
+
+module _ (e k n s : ℕ) (counted : n ≡ length (children e k n)) where
+  pub children-end : n ≤ s → length (children e k n) ≤ s
+  children-end l = omega (arith, counted)
+
+  module _ (l : s < n) where
+    pub child-in : s < length (children e k n)
+    child-in = omega (arith, counted)
+
+    pub slotted : Slotted k s
+    unfolding children
+    slotted ne = let q = rw (ne-eqb k LIST ne) at counted in omega arith
+
+    pub child-there : childAt e k s ≡ getD (children e k n) s (one [])
+    unfolding children childAt
+    child-there = by (eqb k LIST)
+      where
+        by : (b : Bool) → cond b (classAt e) (getD (slotsOf (shape k)) s (one [])) ≡ getD (cond b (replicate n (classAt e)) (slotsOf (shape k))) s (one [])
+        by true = sym (getD-replicate n s (classAt e) (one []) l)
+        by false = refl
+
+-- ---- the children of a record that fits
+module _ (c : Class) (r : Record) (fe : fits c r ≡ true) where
+  pub kids-are : r .kids ≡ length (holds c r)
+  unfolding fits
+  kids-are = eqb-true (r .kids) (length (holds c r)) (and-left (eqb (r .kids) (length (holds c r))) _ (and-right (allowed c (r .kind)) _ fe))
+
+  nothing-held : (cs : List Class) → length cs ≡ 0 → cs ≡ []
+  nothing-held [] h = refl
+  nothing-held (d ∷ ds) h = absurd (omega arith)
+
+  pub childless : r .kids ≡ 0 → holds c r ≡ []
+  childless z = nothing-held (holds c r) (sym kids-are ∙ z)
+
+pub fitting-kind : (n : ℕ) (r : Record) → n < classesHeld → fits (classAt n) r ≡ true → r .kind < kindsHeld
+unfolding fits
+fitting-kind n r h fe = allowed-held n (r .kind) h (and-left (allowed (classAt n) (r .kind)) _ fe)
+
+pub run-holds : (c : Class) (r : Record) → r .kind ≡ RUN → holds c r ≡ replicate (r .kids) (classAt tokenAt)
+unfolding holds
+run-holds c r e = rw (e, token-is)
+
+module _ (n e : ℕ) (h : n < classesHeld) (q : e ≡ elementOf n) where
+  pub element-small : e < classesHeld
+  element-small = rw q (element-held n h)
+
+  pub row-holds : (r : Record) → (r .kind ≡ RUN → ⊥) → holds (classAt n) r ≡ children e (r .kind) (r .kids)
+  unfolding holds children
+  row-holds r ne = rw (ne-eqb (r .kind) RUN ne, q, element-is n h)
+
+-- in a TOKEN's place stands a TOKEN, which has no children
+pub token-childless : (r : Record) → fits (classAt tokenAt) r ≡ true → holds (classAt tokenAt) r ≡ []
+unfolding fits allowed
+token-childless r fe =
+    token-holds (classAt tokenAt) r
+    (eqb-true (r .kind) TOKEN (only (eqb (r .kind) TOKEN) (rw token-is at (and-left (allowed (classAt tokenAt) (r .kind)) _ fe))))
   where
     only : (b : Bool) → (b || false) ≡ true → b ≡ true
     only true h = refl
     only false h = h
 
--- ---- from a record to its children
-pub down : (t x : List ℕ) (i n left : ℕ) (r : Record) (f : Fault) (w : Walk) → i < count t → r ≡ recordAt t i → f ≡ faultIn x r i (place (65 - left) (classAt n)) → f ≡ Fine
-    → left ≤ 64 → Walks t x (i + 1) (map (place (65 - (left - 1))) (holds (classAt n) r)) w → Walks t x i (place (65 - left) (classAt n) ∷ []) w
-down t x i n left r f w h re found e l b =
-    let one-left = fine-left x r i n left f found e in
-    let d : 65 - (left - 1) ≡ 65 - left + 1 = omega arith in
-    goes-down t x i (place (65 - left) (classAt n)) f h (rw re at found) w e (rw (d, re) at b)
+-- the places of a RUN's TOKENs are all the same
+module _ (n s : ℕ) (c : Class) where
+  pub same-end : n ≤ s → length (replicate n c) ≤ s
+  same-end l = rw (length-replicate n c) l
 
--- a TOKEN has no children, so the walk goes on behind it
-pub token-down : (t x : List ℕ) (i left : ℕ) (r : Record) (f : Fault) → i < count t → r ≡ recordAt t i → f ≡ faultIn x r i (place (65 - left) (classAt tokenAt)) → f ≡ Fine
-    → left ≤ 64 → Walks t x i (place (65 - left) (classAt tokenAt) ∷ []) (Next (i + 1))
-unfolding resumed
-token-down t x i left r f h re found e l =
-    let k : r .kind ≡ TOKEN = fine-token x r i left f found e in
-    down t x i tokenAt left r f (Next (i + 1)) h re found e l
-    (rw (token-holds (classAt tokenAt) r k) (record { is = λ rest. refl; ended = omega arith }))
+  pub same-in : s < n → s < length (replicate n c)
+  same-in l = rw (length-replicate n c) l
 
-module _ (c : Class) (r : Record) where
-  pub holds-list : r .kind ≡ LIST → holds c r ≡ replicate (r .kids) (elements c)
-  unfolding holds
-  holds-list e = rw (eq-eqb (r .kind) LIST e)
-
-  pub holds-run : r .kind ≡ RUN → holds c r ≡ replicate (r .kids) (one (TOKEN ∷ []))
-  unfolding holds
-  holds-run e = rw e
-
-  pub holds-slots : (r .kind ≡ LIST → ⊥) → (r .kind ≡ RUN → ⊥) → holds c r ≡ slotsOf (shape (r .kind))
-  unfolding holds
-  holds-slots a b = rw (ne-eqb (r .kind) LIST a, ne-eqb (r .kind) RUN b)
-
-module _ (tab : List ℕ) (n e : ℕ) (is-table : tab ≡ bytes) (h : n < classesHeld) (q : e ≡ elementIn tab n) where
-  pub element-small : e < classesHeld
-  element-small = rw (q, is-table) (element-held n h)
-
-  element-class : classAt e ≡ elements (classAt n)
-  element-class = rw (q, is-table) (element-is n h)
-
-  pub list-below : (t x : List ℕ) (i d : ℕ) (r : Record) (w : Walk) → r .kind ≡ LIST
-      → Walks t x i (map (place d) (replicate (r .kids) (classAt e))) w → Walks t x i (map (place d) (holds (classAt n) r)) w
-  list-below t x i d r w k b = rw (holds-list (classAt n) r k, ← element-class) b
-
-pub run-below : (t x : List ℕ) (i d n : ℕ) (r : Record) (w : Walk) → r .kind ≡ RUN
-    → Walks t x i (map (place d) (replicate (r .kids) (classAt tokenAt))) w → Walks t x i (map (place d) (holds (classAt n) r)) w
-run-below t x i d n r w k b = rw (holds-run (classAt n) r k, ← token-is) b
-
-pub slots-below : (t x : List ℕ) (i d n : ℕ) (r : Record) (w : Walk) → (r .kind ≡ LIST → ⊥) → (r .kind ≡ RUN → ⊥)
-    → Walks t x i (map (place d) (slotsOf (shape (r .kind)))) w → Walks t x i (map (place d) (holds (classAt n) r)) w
-slots-below t x i d n r w k l b = rw (holds-slots (classAt n) r k l) b
+  pub same-there : s < n → c ≡ getD (replicate n c) s (one [])
+  same-there l = sym (getD-replicate n s c (one []) l)
 
 -- ---- along a row of places: from index i with the places ps to index j with qs left
 pub record Along (t x : List ℕ) (i : ℕ) (ps : List Place) (j : ℕ) (qs : List Place) : Type 0 where
@@ -113,69 +128,41 @@ pub along-start : (t x : List ℕ) (i : ℕ) (ps : List Place) → i ≤ count t
 along-start t x i ps h = record { ended = h; is = λ rest. refl }
 
 module _ (t x : List ℕ) (i : ℕ) (ps : List Place) (j : ℕ) where
-  pub along-end : Along t x i ps j [] → Walks t x i ps (Next j)
-  unfolding resumed
-  along-end a = record { is = λ rest. sym (a .is rest); ended = a .ended }
+  pub along-end : count t < refused → Along t x i ps j [] → Walks t x i ps j
+  along-end h a =
+      let e = a .ended in
+      record { is = λ rest. sym (resumed-next t x j rest (omega arith) ∙ a .is rest); ended = λ l. e }
 
-  module _ (p : Place) (qs : List Place) (v : Walk) (a : Along t x i ps j (p ∷ qs)) (w : Walks t x j (p ∷ []) v) where
-    pub along-next : (k : ℕ) → v ≡ Next k → Along t x i ps k qs
-    unfolding resumed
-    along-next k e =
+  module _ (p : Place) (qs : List Place) (v : ℕ) (a : Along t x i ps j (p ∷ qs)) (w : Walks t x j (p ∷ []) v) where
+    along-next : v < refused → Along t x i ps v qs
+    along-next l =
         record {
-          ended = (rw e at w) .ended;
-          is = λ rest. sym (w .is (qs ++ rest) ∙ ap (λ (u : Walk). resumed t x u (qs ++ rest)) e) ∙ a .is rest;
+          ended = w .ended l;
+          is = λ rest. sym (w .is (qs ++ rest) ∙ resumed-next t x v (qs ++ rest) l) ∙ a .is rest;
         }
 
-    pub along-stops : (b : Answer) → v ≡ Refused b → Walks t x i ps (Refused b)
-    unfolding resumed
-    along-stops b e =
+    along-stops : refused ≤ v → Walks t x i ps v
+    along-stops l =
         record {
-          is = λ rest. sym (a .is rest) ∙ w .is (qs ++ rest) ∙ ap (λ (u : Walk). resumed t x u (qs ++ rest)) e;
-          ended = tt;
+          is = λ rest. sym (a .is rest) ∙ w .is (qs ++ rest) ∙ resumed-refused t x v (qs ++ rest) l ∙ sym (resumed-refused t x v rest l);
+          ended = λ g. absurd (omega arith);
         }
 
--- ---- a row of records in the same place
-module _ (t x : List ℕ) (i : ℕ) (ps : List Place) (j d : ℕ) (c : Class) (n : ℕ) (a : Along t x i ps j (map (place d) (replicate n c))) where
-  pub row-end : n ≤ 0 → Walks t x i ps (Next j)
-  row-end h = let z : n ≡ 0 = omega arith in along-end t x i ps j (rw z at a)
+-- no places are filled by no records
+pub nothing-walked : (t x : List ℕ) (i : ℕ) → count t < refused → i ≤ count t → Walks t x i [] i
+nothing-walked t x i h l = along-end t x i [] i h (along-start t x i [] l)
 
-  module _ (some : 0 < n) (v : Walk) (w : Walks t x j (place d c ∷ []) v) where
-    split-row : Along t x i ps j (place d c ∷ map (place d) (replicate (n - 1) c))
-    split-row = let z : n ≡ suc (n - 1) = omega arith in rw z at a
+-- ---- along the places cs: from child s on is left
+module _ (t x : List ℕ) (i d : ℕ) (cs : List Class) (j s : ℕ) (a : Along t x i (map (place d) cs) j (map (place d) (drop s cs))) where
+  pub row-end : count t < refused → length cs ≤ s → Walks t x i (map (place d) cs) j
+  row-end h l = along-end t x i (map (place d) cs) j h (rw (drop-of-length-le cs {i = s} l) at a)
 
-    pub row-next : (k : ℕ) → v ≡ Next k → Along t x i ps k (map (place d) (replicate (n - 1) c))
-    row-next k e = along-next t x i ps j (place d c) (map (place d) (replicate (n - 1) c)) v split-row w k e
+  module _ (l : s < length cs) (c : Class) (ce : c ≡ getD cs s (one [])) (v : ℕ) (w : Walks t x j (place d c ∷ []) v) where
+    split : drop s cs ≡ c ∷ drop (s + 1) cs
+    split = rw (add-one, drop-cons cs s (one []) l, ce)
 
-    pub row-stops : (b : Answer) → v ≡ Refused b → Walks t x i ps (Refused b)
-    row-stops b e = along-stops t x i ps j (place d c) (map (place d) (replicate (n - 1) c)) v split-row w b e
+    pub row-next : v < refused → Along t x i (map (place d) cs) v (map (place d) (drop (s + 1) cs))
+    row-next h = along-next t x i (map (place d) cs) j (place d c) (map (place d) (drop (s + 1) cs)) v (rw split at a) w h
 
--- ---- a kind's slots
-module _ (tab : List ℕ) (k s : ℕ) (is-table : tab ≡ bytes) (h : k < kindsHeld) (n : ℕ) (counted : n ≡ slotsIn tab k) where
-  pub slots-end : (t x : List ℕ) (i : ℕ) (ps : List Place) (j d : ℕ) → Along t x i ps j (map (place d) (drop s (slotsOf (shape k)))) → n ≤ s
-      → Walks t x i ps (Next j)
-  slots-end t x i ps j d a l =
-      let q : n ≡ length (slotsOf (shape k)) = counted ∙ ap (λ (z : List ℕ). slotsIn z k) is-table ∙ slots-are k h in
-      along-end t x i ps j (rw (drop-of-length-le (slotsOf (shape k)) {i = s} (omega arith)) at a)
-
-  module _ (m : ℕ) (named : m ≡ slotIn tab k s) (l : s < n) where
-    within : s < slotsIn bytes k
-    within = rw (← is-table, ← counted) l
-
-    pub slot-next : s < 8
-    slot-next = omega (arith, within, slots-few k h)
-
-    pub slot-small : m < classesHeld
-    slot-small = rw (named, is-table) (slot-held k h s within)
-
-    split : drop s (slotsOf (shape k)) ≡ classAt m ∷ drop (s + 1) (slotsOf (shape k))
-    split =
-        let q : slotsIn bytes k ≡ length (slotsOf (shape k)) = slots-are k h in
-        let g : s < length (slotsOf (shape k)) = omega (arith, within) in
-        rw (add-one, drop-cons (slotsOf (shape k)) s (one []) g, named, is-table, slot-is k h s within)
-
-    module _ (t x : List ℕ) (i : ℕ) (ps : List Place) (j d : ℕ) (a : Along t x i ps j (map (place d) (drop s (slotsOf (shape k))))) (v : Walk) (w : Walks t x j (place d (classAt m) ∷ []) v) where
-      pub slots-next : (e : ℕ) → v ≡ Next e → Along t x i ps e (map (place d) (drop (s + 1) (slotsOf (shape k))))
-      slots-next e q = along-next t x i ps j (place d (classAt m)) (map (place d) (drop (s + 1) (slotsOf (shape k)))) v (rw split at a) w e q
-
-      pub slots-stop : (b : Answer) → v ≡ Refused b → Walks t x i ps (Refused b)
-      slots-stop b q = along-stops t x i ps j (place d (classAt m)) (map (place d) (drop (s + 1) (slotsOf (shape k)))) v (rw split at a) w b q
+    pub row-stops : refused ≤ v → Walks t x i (map (place d) cs) v
+    row-stops h = along-stops t x i (map (place d) cs) j (place d c) (map (place d) (drop (s + 1) cs)) v (rw split at a) w h

@@ -1,11 +1,12 @@
 -- Laws of the whole check: from the walk to the answer, and that no two answers satisfy the contract.
 use Prim.Native.Nat.{ℕ, suc, _-_, _≤_, _<_}
 use native.Mathlib.Omega.{arith}
-use mathlib.Core.Path.{_≡_, _∙_, ap, sym}
-use mathlib.Core.List.{List, [], _∷_}
+use mathlib.Core.Path.{_≡_, refl, _∙_, ap, sym}
+use mathlib.Core.List.{List, [], _∷_, map}
 use mathlib.Core.Bool.{Bool, true, false}
+use lib.Dec.{ltb}
 use lib.ListN.{length}
-use borrow.Author.Tests.{eq-eqb, ne-eqb, lt-ltb, le-ltb}
+use borrow.Author.Tests.{eq-eqb, ne-eqb, lt-ltb, le-ltb, ltb-true, ltb-false}
 use Rattle.utf8.specs.Rfc3629 as utf8
 use Rattle.utf8.specs.Rfc3629.{Encoded}
 use Rattle.utf8.specs.Laws.{encoded-unique}
@@ -13,39 +14,57 @@ use Rattle.utf8.specs.Decided.{decided}
 use Rattle.utf8.specs.declared.Encoding.{Encoding}
 use Rattle.record.specs.Record.{count}
 use Rattle.grammar.specs.Grammar.{root}
-use Rattle.grammar.specs.Classes.{classAt, rootAt, root-is}
+use Rattle.grammar.specs.Kind.{LIST}
+use Rattle.grammar.specs.Classes.{classesHeld, classAt, rootAt, root-is}
+use Rattle.grammar.specs.Packed.{kindsHeld}
 use Rattle.tree.specs.Check.{place, scan, malformed, longest, answerTo, Checks}
 use Rattle.tree.specs.declared.Answer.{Answer}
-use Rattle.tree.specs.declared.Answer.the-variants.{Admitted, Malformed, TooLong, Broken, Ends}
-use Rattle.tree.specs.declared.Walk.{Walk}
-use Rattle.tree.specs.declared.Walk.the-variants.{Next, Refused}
-use Rattle.tree.specs.Walk.{Walks, resumed}
+use Rattle.tree.specs.declared.Answer.the-variants.{Admitted, Malformed, TooLong, Broken}
+use Rattle.tree.specs.Bounds.{tree-short}
+use Rattle.tree.specs.Steps.{children}
+use Rattle.tree.specs.Walk.{refused, refuse, answerOf, Walks, resumed, resumed-next, resumed-refused, refused-answer}
+
+-- the root is the one child of a LIST
+pub root-row : (t : List ℕ) → count t < refused → (count t < refused) × ((0 ≤ count t) × ((rootAt < classesHeld) × ((64 ≤ 64) × ((LIST < kindsHeld) × (1 ≡ length (children rootAt LIST 1))))))
+unfolding children
+root-row t h = (h, (omega arith, (omega arith, (omega arith, (omega arith, refl)))))
+
+pub root-walk : (t x : List ℕ) (w : ℕ) → Walks t x 0 (map (place 1) (children rootAt LIST 1)) w → Walks t x 0 (place 1 (classAt rootAt) ∷ []) w
+unfolding children
+root-walk t x w h = h
+
+-- where records are left over, the index of the first stands for the answer
+left-over : (t x : List ℕ) (w : ℕ) → w < refused → w ≤ count t → (w ≡ count t → ⊥) → scan t x (count t - w) w [] ≡ answerOf w
+unfolding scan
+left-over t x w h l q =
+    let z : count t - w ≡ suc (count t - suc w) = omega arith in
+    let e : refuse 0 w ≡ w = omega arith in
+    rw z (sym (rw e at (refused-answer 0 w h)))
 
 -- ---- from the walk of the root to the scan of all records
-module _ (t x : List ℕ) (w : Walk) (walked : Walks t x 0 (place 1 (classAt rootAt) ∷ []) w) where
+module _ (t x : List ℕ) (w : ℕ) (short : count t < refused) (walked : Walks t x 0 (place 1 (classAt rootAt) ∷ []) w) where
   scanned : scan t x (count t) 0 (place 1 root ∷ []) ≡ resumed t x w []
   scanned =
       let z : count t - 0 ≡ count t = omega arith in
       rw (root-is, z) at (walked .is [])
 
-  pub all-refused : (a : Answer) → w ≡ Refused a → a ≡ scan t x (count t) 0 (place 1 root ∷ [])
-  unfolding resumed
-  all-refused a e = sym (scanned ∙ ap (λ (u : Walk). resumed t x u []) e)
+  pub all-filled : w ≡ count t → Admitted ≡ scan t x (count t) 0 (place 1 root ∷ [])
+  unfolding scan
+  all-filled q =
+      let z : count t - w ≡ 0 = omega arith in
+      sym (scanned ∙ resumed-next t x w [] (omega arith) ∙ rw z)
 
-  pub all-filled : (j : ℕ) → w ≡ Next j → j ≡ count t → Admitted ≡ scan t x (count t) 0 (place 1 root ∷ [])
-  unfolding resumed scan
-  all-filled j e q =
-      let z : count t - j ≡ 0 = omega arith in
-      sym (scanned ∙ ap (λ (u : Walk). resumed t x u []) e ∙ rw z)
-
-  pub left-over : (j : ℕ) → w ≡ Next j → (j ≡ count t → ⊥) → Ends j ≡ scan t x (count t) 0 (place 1 root ∷ [])
-  unfolding resumed scan
-  left-over j e q =
-      let l : j ≤ count t = (rw e at walked) .ended in
-      let z : count t - j ≡ suc (count t - suc j) = omega arith in
-      sym (scanned ∙ ap (λ (u : Walk). resumed t x u []) e ∙ rw z)
+  pub else-refused : (w ≡ count t → ⊥) → answerOf w ≡ scan t x (count t) 0 (place 1 root ∷ [])
+  else-refused q = by (ltb w refused) refl
+    where
+      by : (b : Bool) → ltb w refused ≡ b → answerOf w ≡ scan t x (count t) 0 (place 1 root ∷ [])
+      by true e = sym (scanned ∙ resumed-next t x w [] (ltb-true w refused e) ∙ left-over t x w (ltb-true w refused e) (walked .ended (ltb-true w refused e)) q)
+      by false e = sym (scanned ∙ resumed-refused t x w [] (ltb-false w refused e))
 
 -- ---- 1, 2, and then the records
+pub short-count : (t : List ℕ) (b : Bool) → b ≡ malformed t → b ≡ false → count t < refused
+short-count t b q h = let l : length t ≤ longest = tree-short t (sym q ∙ h) in omega arith
+
 module _ (t x : List ℕ) where
   any : (a : Answer) → ((e : Encoding) → a ≡ answerTo e t x) → Checks t x a
   any a is = let d = decided x in record { encoding = d .0; encoded = d .1; answers = is (d .0) }

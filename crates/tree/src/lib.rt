@@ -1,20 +1,23 @@
 // The check of a flat tree and its text (01, sections 2 and 3).
 //
-// `check_at`, `check_slots` and `check_row` call each other on child records, with the remaining depth falling from 64.
+// `check_row`, `check_at` and `check_below` call each other on child records, with the remaining depth falling from 64. What the
+// walk of a record and all below it comes to is one number: the index behind it, or from REFUSED on a refusal.
 ghost use mathlib.Core.Path.{_≡_};
+ghost use mathlib.Core.Bool.{true};
 ghost use mathlib.Core.List.{[], _∷_, map};
-ghost use lib.Dec.{eqb};
-ghost use Prim.Native.Nat.{_+_, _-_, _≤_, _<_};
+ghost use Prim.Native.Nat.{_+_, _-_, _%_, _≤_, _<_};
 ghost use lib.ListN.{length, replicate};
+ghost use Rattle.spelling.specs.Spelling.{known};
 ghost use Rattle.record.specs.Record.{count as count'};
-ghost use Rattle.grammar.specs.Bytes.{bytes};
-ghost use Rattle.grammar.specs.Grammar.{shape, root};
-ghost use Rattle.grammar.specs.Slots.{slotsOf};
+ghost use Rattle.grammar.specs.Grammar.{root};
 ghost use Rattle.grammar.specs.Classes.{classesHeld, classAt, tokenAt};
-ghost use Rattle.grammar.specs.Laws.{kindsHeld};
+ghost use Rattle.grammar.specs.Packed.{kindsHeld, ruleOf};
 ghost use Rattle.tree.specs.Check.{place as at, holds, flagsFit, hasPart, fieldsFit, rangeFits, fits as fits', inside as inside', scan, malformed as malformed', Checks, numberOf, placeOf};
-ghost use Rattle.tree.specs.Walk.{Walks, FirstFault};
+ghost use Rattle.tree.specs.Walk.{refused, refuse, answerOf, Walks, faultOf};
+ghost use Rattle.tree.specs.Laws.{Counts};
+ghost use Rattle.tree.specs.Steps.{children, childAt, Slotted};
 use grammar::ROOT;
+use grammar::SLOTS;
 use grammar::SMALL;
 use grammar::kind::LIST;
 use grammar::kind::NUMBER;
@@ -51,6 +54,9 @@ const DEEP: u64 = 6;
 
 const ENDS: u64 = 7;
 
+// A refusal of the walk is its number times this, and the index of its record; an index is below it.
+const REFUSED: u64 = 0x1_0000_0000;
+
 pub enum Answer {
     Admitted,
     // The tree is empty, over-long, or no row of whole records.
@@ -68,30 +74,27 @@ pub enum Answer {
     Ends(usize),
 }
 
-// What the walk of a record and all below it comes to: the index behind it, or a refusal.
-pub enum Walk {
-    Next(usize),
-    Refused(Answer),
-}
-
-// The first fault of a record in its place.
-pub enum Fault {
-    Fine,
-    Is(Answer),
-}
-
 // Whether a record has a text part.
 fn has_part(r: Record) -> bool
     ensures { λ b. ⌜ b ≡ hasPart r ⌝ }
 {
-    (r.kind == TEXT) | ((r.kind == TOKEN) & (PRESENT <= r.flags))
+    if r.kind == TOKEN {
+        return PRESENT <= r.flags;
+    }
+    r.kind == TEXT
 }
 
 // Whether bytes 8-15 are a text part, a number, or zero.
 fn fields_fit(r: Record) -> bool
     ensures { λ b. ⌜ b ≡ fieldsFit r ⌝ }
 {
-    has_part(r) | ((r.kind == NUMBER) | ((r.start == 0) & (r.len == 0)))
+    if has_part(r) {
+        return true;
+    }
+    if r.kind == NUMBER {
+        return true;
+    }
+    (r.start == 0) & (r.len == 0)
 }
 
 // Whether a NUMBER is one that its place takes.
@@ -105,44 +108,70 @@ fn range_fits(place: u8, r: Record) -> bool
     true
 }
 
-// Whether a kind defines a record's flags.
-fn flags_fit(table: &[u8], r: Record) -> bool
-    requires { ⌜ (now table ≡ bytes) × (r .kind < kindsHeld) ⌝ }
+// Whether a TOKEN's number is one that a token has.
+fn number_known(r: Record) -> bool
+    ensures { λ b. ⌜ b ≡ known (r .flags % 0x8000) ⌝ }
+{
+    spelling::known(r.flags % PRESENT)
+}
+
+// Whether a kind, whose rule this is, defines a record's flags.
+fn flags_fit(rule: u16, r: Record) -> bool
+    requires { ⌜ (rule ≡ ruleOf (r .kind)) × (r .kind < kindsHeld) ⌝ }
     ensures { λ b. ⌜ b ≡ flagsFit r ⌝ }
 {
     if r.kind == TOKEN {
-        return spelling::known(r.flags % PRESENT);
+        return number_known(r);
     }
-    (r.flags as usize) < grammar::flags_below(table, r.kind)
+    r.flags < rule % SLOTS
 }
 
-// Whether a record has as many children as it must: a LIST and a RUN may have any number.
-fn count_fits(table: &[u8], place: u8, r: Record) -> bool
-    requires { ⌜ (now table ≡ bytes) × (r .kind < kindsHeld) ⌝ }
-    ensures { λ b. ⌜ b ≡ eqb (r .kids) (length (holds (classAt place) r)) ⌝ }
+// Whether a record has as many children as its kind's rule says: a LIST and a RUN may have any number.
+fn count_fits(rule: u16, r: Record) -> bool
+    requires { ⌜ (rule ≡ ruleOf (r .kind)) × (r .kind < kindsHeld) ⌝ }
+    ensures { λ b. ⌜ Counts r b ⌝ }
 {
     if (r.kind == LIST) | (r.kind == RUN) {
         return true;
     }
-    r.kids as usize == grammar::slots(table, r.kind)
+    r.kids == rule / SLOTS
 }
 
 // Whether a record may stand in a place, as it is.
-fn fits(table: &[u8], place: u8, r: Record) -> bool
-    requires { ⌜ (now table ≡ bytes) × (place < classesHeld) ⌝ }
+fn fits(place: u8, r: Record) -> bool
+    requires { ⌜ place < classesHeld ⌝ }
     ensures { λ b. ⌜ b ≡ fits' (classAt place) r ⌝ }
 {
-    if !grammar::allowed(table, place, r.kind) {
+    if !grammar::allowed(place, r.kind) {
         return false;
     }
-    count_fits(table, place, r) & (flags_fit(table, r) & (fields_fit(r) & range_fits(place, r)))
+    let rule = grammar::rule(r.kind);
+    if !count_fits(rule, r) {
+        return false;
+    }
+    if !flags_fit(rule, r) {
+        return false;
+    }
+    if !fields_fit(r) {
+        return false;
+    }
+    range_fits(place, r)
 }
 
 // Whether a record may stand among the TOKENs of a RUN, as it is.
 fn token_fits(r: Record) -> bool
     ensures { λ b. ⌜ b ≡ fits' (classAt tokenAt) r ⌝ }
 {
-    (r.kind == TOKEN) & ((r.kids == 0) & (spelling::known(r.flags % PRESENT) & fields_fit(r)))
+    if r.kind != TOKEN {
+        return false;
+    }
+    if r.kids != 0 {
+        return false;
+    }
+    if !number_known(r) {
+        return false;
+    }
+    fields_fit(r)
 }
 
 // Whether a record's text part, where it has one, lies inside the text and between characters.
@@ -154,26 +183,37 @@ fn inside(text: &[u8], r: Record) -> bool
     }
     let start = r.start as usize;
     let end = start + r.len as usize;
-    (end <= text.len()) & (utf8::boundary(text, start) & utf8::boundary(text, end))
+    if text.len() < end {
+        return false;
+    }
+    utf8::boundary(text, start) & utf8::boundary(text, end)
 }
 
-// The first fault of a record with this depth left, where fit tells whether it may stand in its place.
-fn first_fault(text: &[u8], index: usize, left: usize, r: Record, fit: bool) -> Fault
-    ensures { λ f. ⌜ FirstFault (now (text .entry)) r index left fit f ⌝ }
+// The number of the first fault of a record with this depth left, where fit tells whether it may stand in its place; or 0.
+fn first_fault(text: &[u8], left: usize, r: Record, fit: bool) -> u64
+    ensures { λ f. ⌜ f ≡ faultOf (now (text .entry)) r left fit ⌝ }
 {
     if r.mark != record::MARK {
-        return Fault::Is(Answer::Mark(index));
+        return MARK;
     }
     if !fit {
-        return Fault::Is(Answer::Misfit(index));
+        return MISFIT;
     }
     if !inside(text, r) {
-        return Fault::Is(Answer::Outside(index));
+        return OUTSIDE;
     }
     if left == 0 {
-        return Fault::Is(Answer::Deep(index));
+        return DEEP;
     }
-    Fault::Fine
+    0
+}
+
+// What a walk comes to that ends in a refusal at an index.
+fn refusal(number: u64, index: u64) -> u64
+    requires { ⌜ (number < 16) × (index < refused) ⌝ }
+    ensures { λ w. ⌜ w ≡ refuse number index ⌝ }
+{
+    number * REFUSED + index
 }
 
 // An answer's number in 01's table.
@@ -211,120 +251,96 @@ pub fn place(a: Answer) -> usize
 }
 
 // The TOKENs of a RUN, one behind the other: they have no children.
-fn check_tokens(tree: &[u8], text: &[u8], index: usize, left: usize, n: usize) -> Walk
-    requires { ⌜ (left < 64) × ((index ≤ count' (now tree)) × (n < 65536)) ⌝ }
+fn check_tokens(tree: &[u8], text: &[u8], index: u64, left: usize, n: u16) -> u64
+    requires { ⌜ (count' (now tree) < refused) × ((index ≤ count' (now tree)) × (left ≤ 64)) ⌝ }
     ensures { λ w. ⌜ Walks (now (tree .entry)) (now (text .entry)) index (map (at (65 - left)) (replicate n (classAt tokenAt))) w ⌝ }
 {
     let mut next = index;
-    let mut rest = n;
-    while 0 < rest {
-        if record::count(tree) <= next {
-            return Walk::Refused(Answer::Ends(next));
+    let mut s: u16 = 0;
+    while s < n {
+        if record::count(tree) as u64 <= next {
+            return refusal(ENDS, next);
         }
-        let r = record::read(tree, next);
+        let r = record::read(tree, next as usize);
         let fit = token_fits(r);
-        let fault = first_fault(text, next, left, r, fit);
-        match fault {
-            Fault::Is(answer) => return Walk::Refused(answer),
-            Fault::Fine => next += 1,
+        let fault = first_fault(text, left, r, fit);
+        if fault != 0 {
+            return refusal(fault, next);
         }
-        rest -= 1;
+        next += 1;
+        s += 1;
     }
-    Walk::Next(next)
+    next
 }
 
 // The record at an index, with all below it, in a place with this depth left.
-fn check_at(tree: &[u8], text: &[u8], table: &[u8], index: usize, place: u8, left: usize) -> Walk
-    requires { ⌜ (now table ≡ bytes) × ((place < classesHeld) × (left ≤ 64)) ⌝ }
+fn check_at(tree: &[u8], text: &[u8], index: u64, place: u8, left: usize) -> u64
+    requires { ⌜ (count' (now tree) < refused) × ((index ≤ count' (now tree)) × ((place < classesHeld) × (left ≤ 64))) ⌝ }
     ensures { λ w. ⌜ Walks (now (tree .entry)) (now (text .entry)) index (at (65 - left) (classAt place) ∷ []) w ⌝ }
 {
-    if record::count(tree) <= index {
-        return Walk::Refused(Answer::Ends(index));
+    if record::count(tree) as u64 <= index {
+        return refusal(ENDS, index);
     }
-    let r = record::read(tree, index);
-    let fit = fits(table, place, r);
-    let fault = first_fault(text, index, left, r, fit);
-    match fault {
-        Fault::Is(answer) => Walk::Refused(answer),
-        Fault::Fine => check_below(tree, text, table, index + 1, place, left - 1, r),
+    let r = record::read(tree, index as usize);
+    let fit = fits(place, r);
+    let fault = first_fault(text, left, r, fit);
+    if fault != 0 {
+        return refusal(fault, index);
     }
+    check_below(tree, text, index + 1, place, left - 1, r)
 }
 
-// The children of a record in a place, from an index on.
-fn check_below(
-    tree: &[u8],
-    text: &[u8],
-    table: &[u8],
-    index: usize,
-    place: u8,
-    left: usize,
-    r: Record,
-) -> Walk
-    requires { ⌜ (now table ≡ bytes) × ((place < classesHeld) × ((left < 64) × ((index ≤ count' (now tree)) × (r .kind < kindsHeld)))) ⌝ }
+// The children of a record that fits its place, from an index on.
+fn check_below(tree: &[u8], text: &[u8], index: u64, place: u8, left: usize, r: Record) -> u64
+    requires { ⌜ (count' (now tree) < refused) × ((index ≤ count' (now tree)) × ((place < classesHeld) × ((left < 64) × (fits' (classAt place) r ≡ true)))) ⌝ }
     ensures { λ w. ⌜ Walks (now (tree .entry)) (now (text .entry)) index (map (at (65 - left)) (holds (classAt place) r)) w ⌝ }
 {
-    if r.kind == LIST {
-        let element = grammar::element(table, place);
-        return check_row(
-            tree,
-            text,
-            table,
-            index,
-            element as u8,
-            left,
-            r.kids as usize,
-        );
+    if r.kids == 0 {
+        return index;
     }
     if r.kind == RUN {
-        return check_tokens(tree, text, index, left, r.kids as usize);
+        return check_tokens(tree, text, index, left, r.kids);
     }
-    check_slots(tree, text, table, index, r.kind, left)
+    let element = grammar::element(place);
+    check_row(tree, text, index, element, left, r.kind, r.kids)
 }
 
-// Some records, one behind the other, each in the same place.
+// The place of a child of a kind: a LIST's elements all stand in the same one, and any other kind has slots.
+fn child(element: u8, kind: u16, s: u16) -> u8
+    requires { ⌜ (element < classesHeld) × ((kind < kindsHeld) × Slotted kind s) ⌝ }
+    ensures { λ p. ⌜ (p < classesHeld) × (classAt p ≡ childAt element kind s) ⌝ }
+{
+    if kind == LIST {
+        return element;
+    }
+    grammar::slot(kind, s)
+}
+
+// The n children of a kind, one behind the other, where a LIST's elements stand in the place element.
 fn check_row(
     tree: &[u8],
     text: &[u8],
-    table: &[u8],
-    index: usize,
-    place: u8,
+    index: u64,
+    element: u8,
     left: usize,
-    n: usize,
-) -> Walk
-    requires { ⌜ (now table ≡ bytes) × ((place < classesHeld) × ((left < 64) × ((index ≤ count' (now tree)) × (n < 65536)))) ⌝ }
-    ensures { λ w. ⌜ Walks (now (tree .entry)) (now (text .entry)) index (map (at (65 - left)) (replicate n (classAt place))) w ⌝ }
+    kind: u16,
+    n: u16,
+) -> u64
+    requires { ⌜ (count' (now tree) < refused) × ((index ≤ count' (now tree)) × ((element < classesHeld) × ((left ≤ 64) × ((kind < kindsHeld) × (n ≡ length (children element kind n)))))) ⌝ }
+    ensures { λ w. ⌜ Walks (now (tree .entry)) (now (text .entry)) index (map (at (65 - left)) (children element kind n)) w ⌝ }
 {
     let mut next = index;
-    let mut rest = n;
-    while 0 < rest {
-        let one = check_at(tree, text, table, next, place, left);
-        match one {
-            Walk::Next(behind) => next = behind,
-            Walk::Refused(answer) => return Walk::Refused(answer),
+    let mut s: u16 = 0;
+    while s < n {
+        let place = child(element, kind, s);
+        let one = check_at(tree, text, next, place, left);
+        if REFUSED <= one {
+            return one;
         }
-        rest -= 1;
-    }
-    Walk::Next(next)
-}
-
-// The records that fill a kind's slots.
-fn check_slots(tree: &[u8], text: &[u8], table: &[u8], index: usize, kind: u16, left: usize) -> Walk
-    requires { ⌜ (now table ≡ bytes) × ((kind < kindsHeld) × ((left < 64) × (index ≤ count' (now tree)))) ⌝ }
-    ensures { λ w. ⌜ Walks (now (tree .entry)) (now (text .entry)) index (map (at (65 - left)) (slotsOf (shape kind))) w ⌝ }
-{
-    let n = grammar::slots(table, kind);
-    let mut next = index;
-    let mut s: u8 = 0;
-    while (s as usize) < n {
-        let place = grammar::slot(table, kind, s);
-        let one = check_at(tree, text, table, next, place as u8, left);
-        match one {
-            Walk::Next(behind) => next = behind,
-            Walk::Refused(answer) => return Walk::Refused(answer),
-        }
+        next = one;
         s += 1;
     }
-    Walk::Next(next)
+    next
 }
 
 // Whether a tree is empty, over-long, or no row of whole records.
@@ -335,21 +351,37 @@ fn malformed(tree: &[u8]) -> bool
     (n == 0) | ((LONGEST < n) | !(n % record::SIZE == 0))
 }
 
-// The records of a tree, from the root on.
+// The answer that a walk's number stands for; an index stands for records that are left over from it on.
+fn answer_of(w: u64) -> Answer
+    ensures { λ r. ⌜ r ≡ answerOf w ⌝ }
+{
+    let n = w / REFUSED;
+    let i = (w % REFUSED) as usize;
+    if n == MARK {
+        return Answer::Mark(i);
+    }
+    if n == MISFIT {
+        return Answer::Misfit(i);
+    }
+    if n == OUTSIDE {
+        return Answer::Outside(i);
+    }
+    if n == DEEP {
+        return Answer::Deep(i);
+    }
+    Answer::Ends(i)
+}
+
+// The records of a tree, from the root on: the root is the one element of a row.
 fn check_records(tree: &[u8], text: &[u8]) -> Answer
+    requires { ⌜ count' (now tree) < refused ⌝ }
     ensures { λ r. ⌜ r ≡ scan (now (tree .entry)) (now (text .entry)) (count' (now (tree .entry))) 0 (at 1 root ∷ []) ⌝ }
 {
-    let table = grammar::table();
-    let walk = check_at(tree, text, &table, 0, ROOT, DEEPEST);
-    match walk {
-        Walk::Next(next) => {
-            if next == record::count(tree) {
-                return Answer::Admitted;
-            }
-            Answer::Ends(next)
-        }
-        Walk::Refused(answer) => answer,
+    let w = check_row(tree, text, 0, ROOT, DEEPEST, LIST, 1);
+    if w == record::count(tree) as u64 {
+        return Answer::Admitted;
     }
+    answer_of(w)
 }
 
 // The check of a tree and its text: the first fitting refusal, or that they are admitted.

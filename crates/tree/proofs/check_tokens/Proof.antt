@@ -2,61 +2,80 @@
 -- a TOKEN with no fault has no children.
 use native.Mathlib.Omega.{arith}
 use Prim.Native.Nat.{_-_, _≤_}
-use mathlib.Core.Path.{refl}
 use mathlib.Core.List.{map}
-use lib.ListN.{replicate}
+use lib.ListN.{replicate, drop}
 use Rattle.grammar.specs.Classes.{classAt, tokenAt}
 use Rattle.tree.specs.Check.{place}
-use Rattle.tree.specs.Walk.{past, faulted}
-use Rattle.tree.specs.Steps.{Along, along-start, token-down, row-end, row-next, row-stops}
+use Rattle.tree.specs.Walk.{past, faulted, down, fine-fits, fault-small}
+use Rattle.tree.specs.Steps.{token-childless, same-end, same-in, same-there, Along, along-start, nothing-walked, row-end, row-next, row-stops}
 use borrow.Author.Needs.{needs}
 use Rattle.tree.proofs.check_tokens.Statement.{statement}
 use Rattle.tree.proofs.check_tokens.Tie as tie
 
 abbrev Inv-loop : tie.InvT-loop
-Inv-loop tree text index left n next₀ rest₀ next rest =
-    (rest ≤ n)
-    × Along tree text index (map (place (65 - left)) (replicate n (classAt tokenAt))) next (map (place (65 - left)) (replicate rest (classAt tokenAt)))
+Inv-loop tree text index left n next₀ s₀ next s =
+    (s ≤ n)
+    × Along tree text index (map (place (65 - left)) (replicate n (classAt tokenAt))) next (map (place (65 - left)) (drop s (replicate n (classAt tokenAt))))
 
 abbrev μ-loop : tie.MeasureT-loop
-μ-loop tree text index left n next₀ rest₀ next rest = rest
+μ-loop tree text index left n next₀ s₀ next s = n - s
+
+refusal-requires : tie.Need-refusal-requires Inv-loop μ-loop
+refusal-requires c κs =
+    let at-loop = c .before .before .before .loop in
+    let e = at-loop .inv .1 .ended in (omega arith, omega arith)
 
 -- a record that is past the end, one with a fault, and one that is fine
 returns : tie.Need-returns Inv-loop μ-loop
 returns c =
-    let at-args = c .before .before .before .before .before .before .args in
-    let at-loop = c .before .before .before .loop in
-    let at-test = c .before .before .loop-test in
-    row-stops _ _ _ _ _ _ _ _ (at-loop .inv .1) (at-test .taken) _ (past (at-args .tree .now) (at-args .text .now) _ _ (search needs)) _ refl
+    let at-args = c .before .before .before .before .before .before .before .args in
+    let at-loop = c .before .before .before .before .loop in
+    let at-loop-test = c .before .before .before .loop-test in
+    let e = at-loop .inv .1 .ended in
+    rw (c .refusal .ensures)
+    (row-stops _ _ _ _ _ _ _ (at-loop .inv .1) (same-in _ _ _ (at-loop-test .taken)) _ (same-there _ _ _ (at-loop-test .taken)) _
+    (past (at-args .tree .now) (at-args .text .now) _ _ (search needs) (omega arith)) (omega arith))
+
+refusal-requires-2 : tie.Need-refusal-requires-2 Inv-loop μ-loop
+refusal-requires-2 c κs = (fault-small _ _ _ _ _ (c .before .first-fault .ensures), omega arith)
 
 returns-2 : tie.Need-returns-2 Inv-loop μ-loop
 returns-2 c =
-    let at-args = c .before .before .before .before .before .before .before .before .before .before .before .before .args in
-    let at-read = c .before .before .before .before .before .read in
-    let found = (c .before .before .before .first-fault .ensures) _ (c .before .before .before .before .token-fits .ensures) in
-    let at-loop = c .before .before .before .before .before .before .before .before .before .loop in
-    let at-test = c .before .before .before .before .before .before .before .before .loop-test in
-    row-stops _ _ _ _ _ _ _ _ (at-loop .inv .1) (at-test .taken) _
-    (faulted (at-args .tree .now) (at-args .text .now) _ _ _ (search needs) (rw (at-read .ensures) at found) _ (c .before .fault .given .1)) _ refl
+    let at-args = c .before .before .before .before .before .before .before .before .before .before .before .args in
+    let at-loop = c .before .before .before .before .before .before .before .before .loop in
+    let at-loop-test = c .before .before .before .before .before .before .before .loop-test in
+    let at-read = c .before .before .before .before .read in
+    let found = c .before .before .first-fault in
+    let at-fit = c .before .before .before .token-fits in
+    rw (c .refusal2 .ensures)
+    (row-stops _ _ _ _ _ _ _ (at-loop .inv .1) (same-in _ _ _ (at-loop-test .taken)) _ (same-there _ _ _ (at-loop-test .taken)) _
+    (faulted (at-args .tree .now) (at-args .text .now) _ _ _ _ (search needs) (at-read .ensures) _ (at-fit .ensures) _ (found .ensures) (c .before .if2 .taken) (omega arith)) (omega arith))
 
 loop-again : tie.Need-loop-again Inv-loop μ-loop
 loop-again c =
-    let at-args = c .before .before .before .before .before .before .before .before .before .before .before .args in
-    let at-pre = c .before .before .before .before .before .before .before .before .before .before .before .pre in
-    let at-read = c .before .before .before .before .read in
-    let found = (c .before .before .first-fault .ensures) _ (c .before .before .before .token-fits .ensures) in
-    let at-loop = c .before .before .before .before .before .before .before .before .loop in
-    let at-test = c .before .before .before .before .before .before .before .loop-test in (
+    let at-args = c .before .before .before .before .before .before .before .before .before .before .args in
+    let at-loop = c .before .before .before .before .before .before .before .loop in
+    let at-loop-test = c .before .before .before .before .before .before .loop-test in
+    let at-read = c .before .before .before .read in
+    let found = c .before .first-fault in
+    let at-fit = c .before .before .token-fits in
+    let none = token-childless _ (fine-fits (at-args .text .now) _ _ _ _ (at-fit .ensures) _ (found .ensures) (c .if2 .left)) in (
       omega arith,
-      row-next _ _ _ _ _ _ _ _ (at-loop .inv .1) (at-test .taken) _
-          (token-down (at-args .tree .now) (at-args .text .now) _ _ _ _ (search needs) (at-read .ensures) found (c .enum-told .given .1) (omega arith)) _ refl,
+      row-next _ _ _ _ _ _ _ (at-loop .inv .1) (same-in _ _ _ (at-loop-test .taken)) _ (same-there _ _ _ (at-loop-test .taken)) _
+          (down (at-args .tree .now) (at-args .text .now) _ _ _ _ (search needs) (at-read .ensures) _ (at-fit .ensures) _ (found .ensures) (c .if2 .left) (omega arith) _
+          (rw none (nothing-walked _ _ _ (omega arith) (omega arith)))) (omega arith),
     )
+
+returns-3 : tie.Need-returns-3 Inv-loop μ-loop
+returns-3 c =
+    let at-args = c .before .before .before .before .args in
+    let at-loop = c .before .loop in
+    let at-loop-test = c .loop-test in
+    row-end (at-args .tree .now) _ _ _ _ _ _ (at-loop .inv .1) (c .before .before .before .before .pre .0) (same-end _ _ _ (at-loop-test .left))
 
 pub check-tokens-spec : {M : Type 1} → statement M
 check-tokens-spec =
     tie.close
     (tie.spec Inv-loop μ-loop
     (λ c. (omega arith, along-start _ _ _ _ (c .before .before .pre .1 .0)))
-    (λ c κs. search needs) returns (λ c κs. search needs) (λ c κs. search needs) (λ c κs. search needs)
-    (λ c. search needs) returns-2 (λ c. search needs) (λ c. search needs) (λ c. search needs) (λ c. search needs) loop-again
-    (λ c. row-end _ _ _ _ _ _ _ _ (c .before .loop .inv .1) (c .loop-test .left)))
+    (λ c κs. search needs) refusal-requires returns (λ c κs. search needs) (λ c κs. search needs) (λ c κs. search needs) refusal-requires-2 returns-2 (λ c. search needs) (λ c. search needs) (λ c. search needs) loop-again returns-3)

@@ -1,12 +1,14 @@
--- `tree::has_part` meets its contract: the definition's test.
-use mathlib.Core.Path.{refl}
-use Rattle.tree.specs.Check.{hasPart}
+-- `tree::has_part` meets its contract: a TOKEN with a value, and a TEXT.
+use Rattle.tree.specs.Laws.{token-part, other-part}
+use borrow.Author.Needs.{needs}
 use Rattle.tree.proofs.has_part.Statement.{statement}
 use Rattle.tree.proofs.has_part.Tie as tie
 
 returns : tie.Need-returns
-unfolding hasPart
-returns c = refl
+returns c = token-part (c .before .before .before .args .r) (c .before .if1 .taken)
+
+returns-2 : tie.Need-returns-2
+returns-2 c = other-part (c .before .before .before .args .r) (c .before .if1 .left)
 
 pub has-part-spec : {M : Type 1} → statement M
-has-part-spec = tie.close (tie.spec returns)
+has-part-spec = tie.close (tie.spec returns returns-2)
