@@ -355,21 +355,21 @@ fn malformed(tree: &[u8]) -> bool
 fn answer_of(w: u64) -> Answer
     ensures { λ r. ⌜ r ≡ answerOf w ⌝ }
 {
-    let n = w / REFUSED;
-    let i = (w % REFUSED) as usize;
-    if n == MARK {
-        return Answer::Mark(i);
+    let number = w / REFUSED;
+    let index = (w % REFUSED) as usize;
+    if number == MARK {
+        return Answer::Mark(index);
     }
-    if n == MISFIT {
-        return Answer::Misfit(i);
+    if number == MISFIT {
+        return Answer::Misfit(index);
     }
-    if n == OUTSIDE {
-        return Answer::Outside(i);
+    if number == OUTSIDE {
+        return Answer::Outside(index);
     }
-    if n == DEEP {
-        return Answer::Deep(i);
+    if number == DEEP {
+        return Answer::Deep(index);
     }
-    Answer::Ends(i)
+    Answer::Ends(index)
 }
 
 // The records of a tree, from the root on: the root is the one element of a row.
