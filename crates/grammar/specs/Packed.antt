@@ -1,7 +1,5 @@
 -- The grammar in numbers, as the code looks it up: the kinds that may stand in a place, the number of a place, a kind's rule and its slots' places.
-use Prim.Native.Nat.{ℕ, zero, suc, _+_, _*_, _≤_}
-use native.Mathlib.Omega.{arith}
-use mathlib.Core.Path.{_≡_}
+use Prim.Native.Nat.{ℕ, zero, suc, _+_, _*_}
 use mathlib.Core.List.{List, [], _∷_}
 use mathlib.Core.Bool.{Bool, true, false, cond, _&&_}
 use lib.ListN.{length, getD}
@@ -68,12 +66,3 @@ slotOf k s = numbered (getD (slotsOf (shape k)) s (one []))
 
 unfoldable pub placesOf : ℕ → ℕ
 placesOf k = packed 256 (slotOf k) 0 8
-
--- ---- the last line of a table: a number that is none of the numbers below n is no less than n
-abbrev NoneOf : ℕ → ℕ → Type 0
-NoneOf x zero = Unit
-NoneOf x (suc n) = NoneOf x n × (x ≡ n → ⊥)
-
-pub past-all : (x n : ℕ) → NoneOf x n → n ≤ x
-past-all x zero h = omega arith
-past-all x (suc n) h = let l = past-all x n (h .0) in let ne = h .1 in omega arith

@@ -5,8 +5,6 @@
 pub mod token;
 
 ghost use mathlib.Core.Path.{_≡_};
-ghost use Prim.Native.Nat.{_≤_};
-ghost use lib.ListN.{getD};
 ghost use Rattle.spelling.specs.Spelling.{known as known'};
 ghost use Rattle.spelling.specs.Table.{bytes as bytes', rowOf, spellingIn};
 
@@ -30,18 +28,6 @@ pub fn table() -> [u8; 824]
     ensures { λ r. ⌜ r ≡ bytes' ⌝ }
 {
     POOL
-}
-
-// The byte at i of a lent table, or 0 past the end.
-pub fn byte(table: &[u8], i: usize) -> usize
-    ensures value { λ r. ⌜ r ≡ getD (now (table .entry)) i 0 ⌝ }
-    ensures small { λ r. ⌜ r ≤ 255 ⌝ }
-{
-    if i < table.len() {
-        table[i] as usize
-    } else {
-        0
-    }
 }
 
 // The row of a token number, in the order of token.rs: where its spelling stands in the pool and, in the last hex digit,

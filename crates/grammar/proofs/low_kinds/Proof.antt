@@ -2,9 +2,10 @@
 use Prim.Native.Nat.{ℕ}
 use native.Mathlib.Omega.{arith}
 use mathlib.Core.Path.{_≡_, ap, sym}
+use Rattle.laws.specs.Apart.{apart}
 use Rattle.grammar.specs.Slots.{allowed}
 use Rattle.grammar.specs.Classes.{classesHeld, classes, classAt}
-use Rattle.grammar.specs.Packed.{lowKinds, past-all}
+use Rattle.grammar.specs.Packed.{lowKinds}
 use Rattle.grammar.proofs.low_kinds.Statement.{statement}
 use Rattle.grammar.proofs.low_kinds.Tie as tie
 
@@ -12,7 +13,7 @@ line : {n k : ℕ} → n ≡ k → lowKinds k ≡ lowKinds n
 line e = ap lowKinds (sym e)
 
 rest : tie.Need-returns-50
-rest c = absurd (omega (arith, past-all (c .before .args .place) classesHeld (c .match .rest)))
+rest c = absurd (omega (arith, apart classesHeld (c .before .args .place) (c .match .rest)))
 
 pub low-kinds-spec : {M : Type 1} → statement M
 unfolding lowKinds classAt classes allowed

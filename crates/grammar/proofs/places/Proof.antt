@@ -2,10 +2,11 @@
 use Prim.Native.Nat.{ℕ}
 use native.Mathlib.Omega.{arith}
 use mathlib.Core.Path.{_≡_, ap, sym}
+use Rattle.laws.specs.Apart.{apart}
 use Rattle.grammar.specs.Grammar.{shape}
 use Rattle.grammar.specs.Slots.{slotsOf}
 use Rattle.grammar.specs.Classes.{classes}
-use Rattle.grammar.specs.Packed.{kindsHeld, placesOf, slotOf, numbered, sameClass, past-all}
+use Rattle.grammar.specs.Packed.{kindsHeld, placesOf, slotOf, numbered, sameClass}
 use Rattle.grammar.proofs.places.Statement.{statement}
 use Rattle.grammar.proofs.places.Tie as tie
 
@@ -13,7 +14,7 @@ line : {n k : ℕ} → n ≡ k → placesOf k ≡ placesOf n
 line e = ap placesOf (sym e)
 
 rest : tie.Need-returns-122
-rest c = absurd (omega (arith, past-all (c .before .args .kind) kindsHeld (c .match .rest)))
+rest c = absurd (omega (arith, apart kindsHeld (c .before .args .kind) (c .match .rest)))
 
 pub places-spec : {M : Type 1} → statement M
 unfolding placesOf slotOf numbered sameClass shape slotsOf classes

@@ -2,9 +2,10 @@
 use Prim.Native.Nat.{ℕ}
 use native.Mathlib.Omega.{arith}
 use mathlib.Core.Path.{_≡_, ap, sym}
+use Rattle.laws.specs.Apart.{apart}
 use Rattle.grammar.specs.Grammar.{shape}
 use Rattle.grammar.specs.Slots.{slotsOf, flagsBelow}
-use Rattle.grammar.specs.Packed.{kindsHeld, ruleOf, past-all}
+use Rattle.grammar.specs.Packed.{kindsHeld, ruleOf}
 use Rattle.grammar.proofs.rule.Statement.{statement}
 use Rattle.grammar.proofs.rule.Tie as tie
 
@@ -12,7 +13,7 @@ line : {n k : ℕ} → n ≡ k → ruleOf k ≡ ruleOf n
 line e = ap ruleOf (sym e)
 
 rest : tie.Need-returns-122
-rest c = absurd (omega (arith, past-all (c .before .args .kind) kindsHeld (c .match .rest)))
+rest c = absurd (omega (arith, apart kindsHeld (c .before .args .kind) (c .match .rest)))
 
 pub rule-spec : {M : Type 1} → statement M
 unfolding ruleOf shape slotsOf flagsBelow
