@@ -5,13 +5,27 @@ use Rattle.tree.proofs.inside.Statement.{statement}
 use Rattle.tree.proofs.inside.Tie as tie
 
 returns : tie.Need-returns
-returns c = no-part (c .before .before .before .args .r) _ (c .before .has-part .ensures) (c .before .before .before .args .text .now) (c .if1 .taken)
+returns c =
+    let start = c .before .before .before in
+    no-part (start .args .r) _ (c .before .has-part .ensures) (start .args .text .now) (c .if1 .taken)
 
 returns-2 : tie.Need-returns-2
-returns-2 c = past-text (c .before .before .before .before .before .before .args .r) _ (c .before .before .before .before .has-part .ensures) (c .before .before .before .before .before .before .args .text .now) (c .before .before .before .if1 .left) (c .if2 .taken)
+returns-2 c =
+    let at-if1 = c .before .before .before in
+    let start = at-if1 .before .before .before in
+    past-text (start .args .r) _ (at-if1 .before .has-part .ensures) (start .args .text .now) (at-if1 .if1 .left) (c .if2 .taken)
 
 returns-3 : tie.Need-returns-3
-returns-3 c = a-part (c .before .before .before .before .before .before .before .before .args .r) _ (c .before .before .before .before .before .before .has-part .ensures) (c .before .before .before .before .before .before .before .before .args .text .now) (c .before .before .before .before .before .if1 .left) _ _ (c .before .before .if2 .left) (c .before .boundary .ensures) (c .boundary2 .ensures)
+returns-3 c =
+    let at-if2 = c .before .before in
+    let at-if1 = at-if2 .before .before .before in
+    let start = at-if1 .before .before .before in
+    a-part (start .args .r) _ (at-if1 .before .has-part .ensures) (start .args .text .now) (at-if1 .if1 .left) _ _ (at-if2 .if2 .left)
+    (c .before .boundary .ensures) (c .boundary2 .ensures)
 
 pub inside-spec : {M : Type 1} → statement M
-inside-spec = tie.close (tie.spec (λ c κs. search needs) returns (λ c. search needs) (λ c. search needs) (λ c. search needs) returns-2 (λ c κs. search needs) (λ c κs. search needs) returns-3)
+inside-spec =
+    tie.close
+    (tie.spec
+    (λ c κs. search needs) returns (λ c. search needs) (λ c. search needs) (λ c. search needs) returns-2
+    (λ c κs. search needs) (λ c κs. search needs) returns-3)
