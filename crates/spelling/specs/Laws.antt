@@ -16,7 +16,7 @@ use Rattle.spelling.specs.Rows.{unknown, rows}
 use Rattle.spelling.specs.Spelling.{row, known, spelling}
 use Rattle.spelling.specs.Table.{bytes, heads, rowOf, spellingIn, within, rowsHeld, lengths}
 
-abbrev count : ℕ
+abbrev pub count : ℕ
 count = 256
 
 -- past the table no token has the number
@@ -25,7 +25,7 @@ unfolding row rows
 row-past k h = List·getD-eq-default rows unknown h
 
 -- a rule of every number: by the test below the count, and past it by hand
-everywhere : (P : ℕ → Type 0) (k : ℕ) → (k < count → P k) → (count ≤ k → P k) → P k
+pub everywhere : (P : ℕ → Type 0) (k : ℕ) → (k < count → P k) → (count ≤ k → P k) → P k
 everywhere P k lo hi = by (ltb k count) refl
   where
     by : (b : Bool) → ltb k count ≡ b → P k
@@ -69,6 +69,18 @@ spells k =
     everywhere (λ n. spellingIn bytes n ≡ spelling n) k
     (λ h. equal (spellingIn bytes k) (spelling k) (at (λ n. same (spellingIn bytes n) (spelling n)) count spells-below k h))
     (spells-past k)
+
+-- past the rows nothing is spelled
+silent-below : below (λ k. ltb k rowsHeld || same (spelling k) []) count ≡ true
+unfolding spelling row rows
+silent-below = refl
+
+pub silent : (k : ℕ) → rowsHeld ≤ k → spelling k ≡ []
+unfolding spelling
+silent k h =
+    everywhere (λ n. spelling n ≡ []) k
+    (λ l. equal (spelling k) [] (rw (le-ltb k rowsHeld h) at (at (λ n. ltb n rowsHeld || same (spelling n) []) count silent-below k l)))
+    (λ l. rw (row-past k l))
 
 -- a look-up, by its row: there is no room for the spelling, or it is a part of the pool
 module _ (t : List ℕ) (k r : ℕ) (e : r ≡ rowOf k) where
