@@ -1,36 +1,44 @@
--- A turn of the check's loop: `i` is the end of a text that begins `s`, and `n` the length found there.
+-- A turn of the check's loop: `i` is the end of a text that begins `s`, and the text goes on for `n` bytes.
 -- Assumes nothing.
 use Prim.Native.Nat.{ℕ, _+_, _-_, _≤_, _<_}
-use mathlib.Core.Path.{_≡_, _∙_, ap, sym}
+use mathlib.Core.Path.{_≡_, _∙_, sym}
 use mathlib.Core.List.{List}
 use native.Mathlib.Omega.{arith}
 use lib.ListN.{length, take, drop, length-drop}
-use lib.Seq.{take-all, take-add}
+use lib.Seq.{take-add}
 use Rattle.utf8.specs.Rfc3629.{Text, Longest}
 use Rattle.utf8.specs.Scan.{width}
-use Rattle.utf8.specs.Characters.{Starts, width-none, width-starts}
+use Rattle.utf8.specs.Characters.{width-none, width-starts}
 use Rattle.utf8.specs.Laws.{text-append, text-char, longest-here}
+use Rattle.utf8.specs.Plain.{Plain, Goes, rest, plain-text}
+
+-- by the length of the character that begins the row
+pub goes-width : (s : List ℕ) (n : ℕ) → n ≡ width s → Goes s n
+goes-width s n e =
+    (λ z. width-none s (sym e ∙ z), λ h. let st = width-starts s (λ z. h (e ∙ z)) in (rw e (st .within), rw e (text-char (st .char))))
+
+-- and by the plain bytes behind it
+pub goes-far : (s : List ℕ) (n m : ℕ) → Goes s n → (n ≡ 0 → ⊥) → m ≤ length (drop n s) → Plain m (drop n s) → Goes s (n + m)
+goes-far s n m g h l p =
+    let t = g .1 h in (
+      λ z. absurd (h (omega arith)),
+      λ k. (omega (arith, t .0, length-drop n s), rw (take-add n m s) (text-append (t .1) (plain-text m (drop n s) l p))),
+    )
 
 module _ (s : List ℕ) (i : ℕ) (below : i < length s) where
-  -- the part of `s` that is lent holds all that is left
-  left : take (length s - i) (drop i s) ≡ drop i s
-  left = take-all (length s - i) (drop i s) (omega (arith, length-drop i s))
-
   pub some-left : 0 < length (take (length s - i) (drop i s))
-  some-left = rw (left, length-drop i s) (omega arith)
+  some-left = rw (rest s i, length-drop i s) (omega arith)
 
-  module _ (text : Text (take i s)) (n : ℕ) (found : n ≡ width (take (length s - i) (drop i s))) where
-    here : n ≡ width (drop i s)
-    here = found ∙ ap width left
+  module _ (text : Text (take i s)) (n : ℕ) (found : Goes (take (length s - i) (drop i s)) n) where
+    here : Goes (drop i s) n
+    here = rw (rest s i) at found
 
     -- none is found: the longest text ends at `i`
     pub stops : n ≡ 0 → Longest s i
-    stops e = longest-here s i below text (width-none (drop i s) (sym here ∙ e))
-
-    starts : (n ≡ 0 → ⊥) → Starts (drop i s) n
-    starts h = rw here (width-starts (drop i s) (λ e. h (here ∙ e)))
+    stops e = longest-here s i below text (here .0 e)
 
     -- one is found: it ends within `s`, and so does the text that it goes on with
     pub goes-on : (n ≡ 0 → ⊥) → (i + n ≤ length s) × Text (take (i + n) s)
     goes-on h =
-        (omega (arith, starts h .within, length-drop i s), rw (take-add i n s) (text-append text (text-char (starts h .char))))
+        let t = here .1 h in
+        (omega (arith, t .0, length-drop i s), rw (take-add i n s) (text-append text (t .1)))

@@ -1,9 +1,11 @@
 // UTF-8 (RFC 3629): whether bytes are a text, where the longest text that begins them ends, and where characters start.
 ghost use mathlib.Core.Path.{_≡_};
-ghost use Prim.Native.Nat.{_<_};
+ghost use Prim.Native.Nat.{_<_, _≤_};
+ghost use mathlib.Core.Bool.{true};
 ghost use lib.ListN.{length};
 ghost use Rattle.utf8.specs.Rfc3629.{Encoded, number as number', place as place', tail as tail', boundary as boundary'};
 ghost use Rattle.utf8.specs.Scan.{ones as ones', low as low', high as high', second as second', two as two', three as three', four as four', width};
+ghost use Rattle.utf8.specs.Plain.{plain, Plain, Goes};
 
 // A tail, a byte that goes on with a character, is from 80 to BF.
 const TAIL_FIRST: u8 = 0x80;
@@ -34,6 +36,13 @@ const LAST_AFTER_F4: u8 = 0x8F;
 
 // 01's number of the refusal: not UTF-8.
 const NOT_UTF8: u64 = 2;
+
+// Bytes are tested four, eight or sixteen at once.
+const FOUR: usize = 4;
+
+const EIGHT: usize = 8;
+
+const BLOCK: usize = 16;
 
 // What the check answers.
 pub enum Encoding {
@@ -164,22 +173,109 @@ fn char_len(s: &[u8]) -> usize
     }
 }
 
-// The same, with the most common first byte, one that has no ones, told by one test.
+// Whether the first four bytes are plain: below 80, characters of one byte each.
+fn plain_four(s: &[u8]) -> bool
+    requires { ⌜ 4 ≤ length (now s) ⌝ }
+    ensures { λ r. ⌜ r ≡ plain 4 (now (s .entry)) ⌝ }
+{
+    (s[0] < TAIL_FIRST) & (s[1] < TAIL_FIRST) & (s[2] < TAIL_FIRST) & (s[3] < TAIL_FIRST)
+}
+
+// Whether the first eight bytes are.
+fn plain_eight(s: &[u8]) -> bool
+    requires { ⌜ 8 ≤ length (now s) ⌝ }
+    ensures { λ r. ⌜ r ≡ plain 8 (now (s .entry)) ⌝ }
+{
+    (s[0] < TAIL_FIRST)
+        & (s[1] < TAIL_FIRST)
+        & (s[2] < TAIL_FIRST)
+        & (s[3] < TAIL_FIRST)
+        & (s[4] < TAIL_FIRST)
+        & (s[5] < TAIL_FIRST)
+        & (s[6] < TAIL_FIRST)
+        & (s[7] < TAIL_FIRST)
+}
+
+// Whether the first sixteen bytes are.
+fn plain_block(s: &[u8]) -> bool
+    requires { ⌜ 16 ≤ length (now s) ⌝ }
+    ensures { λ r. ⌜ (r ≡ true → Plain 16 (now (s .entry))) ⌝ }
+{
+    plain_eight(s) & plain_eight(&s[EIGHT..])
+}
+
+// Where the blocks of sixteen plain bytes that begin the bytes end.
+fn blocks(s: &[u8]) -> usize
+    ensures { λ r. ⌜ (r ≤ length (now (s .entry))) × Plain r (now (s .entry)) ⌝ }
+{
+    let mut i = 0;
+    while BLOCK <= s.len() - i {
+        if !plain_block(&s[i..]) {
+            return i;
+        }
+        i += BLOCK;
+    }
+    i
+}
+
+// All of fewer than sixteen bytes, where they are plain, else 0: two tests that overlap reach them all.
+fn few(s: &[u8]) -> usize
+    requires { ⌜ length (now s) < 16 ⌝ }
+    ensures { λ r. ⌜ (r ≤ length (now (s .entry))) × Plain r (now (s .entry)) ⌝ }
+{
+    let n = s.len();
+    if n < FOUR {
+        return 0;
+    }
+    if n < EIGHT {
+        if plain_four(s) & plain_four(&s[n - FOUR..]) {
+            return n;
+        }
+        return 0;
+    }
+    if plain_eight(s) & plain_eight(&s[n - EIGHT..]) {
+        return n;
+    }
+    0
+}
+
+// How many of the first bytes are surely plain. The last block, which need not be whole, is tested with bytes before it.
+fn plain_start(s: &[u8]) -> usize
+    ensures { λ r. ⌜ (r ≤ length (now (s .entry))) × Plain r (now (s .entry)) ⌝ }
+{
+    let n = s.len();
+    if n < BLOCK {
+        return few(s);
+    }
+    let i = blocks(s);
+    if n - i < BLOCK {
+        if plain_block(&s[n - BLOCK..]) {
+            return n;
+        }
+    }
+    i
+}
+
+// How far the text goes on: a byte that is plain, or a character and the blocks of plain bytes behind it; 0 where no character begins the bytes.
 fn next_len(s: &[u8]) -> usize
     requires { ⌜ 0 < length (now s) ⌝ }
-    ensures { λ r. ⌜ r ≡ width (now (s .entry)) ⌝ }
+    ensures { λ r. ⌜ Goes (now (s .entry)) r ⌝ }
 {
     if s[0] < TAIL_FIRST {
         return 1;
     }
-    char_len(s)
+    let n = char_len(s);
+    if n == 0 {
+        return 0;
+    }
+    n + blocks(&s[n..])
 }
 
 // Whether the bytes are a text, and if not, where the longest text that begins them ends.
 pub fn check(s: &[u8]) -> Encoding
     ensures { λ r. ⌜ Encoded (now (s .entry)) r ⌝ }
 {
-    let mut i = 0;
+    let mut i = plain_start(s);
     while i < s.len() {
         let n = next_len(&s[i..]);
         if n == 0 {

@@ -1,12 +1,13 @@
 -- `utf8::check` meets its contract. The loop's invariant: `i` is within the bytes, and those before it are a text; what is left falls with each turn.
--- A turn finds a character, and the text goes on to its end, or none, and the longest text ends at `i` (`Turn`). Assumes nothing.
+-- It begins with plain bytes. A turn finds how far the text goes on, or that no character is there, and the longest text ends at `i` (`Turn`). Assumes nothing.
 use Prim.Native.Nat.{_≤_, _-_}
 use denote.Ref.{now}
 use native.Mathlib.Omega.{arith}
 use lib.ListN.{length, take}
 use lib.Seq.{take-all}
 use borrow.Author.Needs.{needs}
-use Rattle.utf8.specs.Rfc3629.{Text, none}
+use Rattle.utf8.specs.Rfc3629.{Text}
+use Rattle.utf8.specs.Plain.{plain-text}
 use Rattle.utf8.proofs.Turn.{some-left, stops, goes-on}
 use Rattle.utf8.proofs.check.Statement.{statement}
 use Rattle.utf8.proofs.check.Tie as tie
@@ -17,8 +18,13 @@ Inv-loop s i₀ i = (i ≤ length s) × Text (take i s)
 abbrev μ-loop : tie.MeasureT-loop
 μ-loop s i₀ i = length s - i
 
+plain-start-requires : tie.Need-plain-start-requires Inv-loop μ-loop
+plain-start-requires c κs = search needs
+
 loop-holds : tie.Need-loop-holds Inv-loop μ-loop
-loop-holds c = (omega arith, none)
+loop-holds c =
+    let start = c .plain-start in
+    (start .ensures .0, plain-text (start .result) (now (c .before .before .args .s)) (start .ensures .0) (start .ensures .1))
 
 sub-next-len : tie.Need-sub-next-len Inv-loop μ-loop
 sub-next-len c = search needs
@@ -31,11 +37,11 @@ part-next-len-end c = search needs
 
 next-len-requires : tie.Need-next-len-requires Inv-loop μ-loop
 next-len-requires c κs =
-    some-left (now (c .before .before .before .before .args .s)) (c .before .before .loop .i) (c .before .loop-test .taken)
+    some-left (now (c .before .before .before .before .before .args .s)) (c .before .before .loop .i) (c .before .loop-test .taken)
 
 returns : tie.Need-returns Inv-loop μ-loop
 returns c =
-    let s = now (c .before .before .before .before .before .before .args .s) in
+    let s = now (c .before .before .before .before .before .before .before .args .s) in
     let loop = c .before .before .before .before .loop in
     let more = c .before .before .before .loop-test .taken in
     let found = c .before .next-len in
@@ -43,7 +49,7 @@ returns c =
 
 loop-again : tie.Need-loop-again Inv-loop μ-loop
 loop-again c =
-    let s = now (c .before .before .before .before .before .before .args .s) in
+    let s = now (c .before .before .before .before .before .before .before .args .s) in
     let loop = c .before .before .before .before .loop in
     let more = c .before .before .before .loop-test .taken in
     let found = c .before .next-len in
@@ -57,7 +63,7 @@ loop-less c = omega (arith, loop-again c)
 
 returns-2 : tie.Need-returns-2 Inv-loop μ-loop
 returns-2 c =
-    rw (take-all (c .before .loop .i) (now (c .before .before .before .args .s)) (c .loop-test .left)) at (c .before .loop .inv .1)
+    rw (take-all (c .before .loop .i) (now (c .before .before .before .before .args .s)) (c .loop-test .left)) at (c .before .loop .inv .1)
 
 pub check-spec : {M : Type 1} → statement M
 check-spec =
@@ -65,6 +71,7 @@ check-spec =
     (tie.spec
     Inv-loop
     μ-loop
+    plain-start-requires
     loop-holds
     sub-next-len
     part-next-len-start
