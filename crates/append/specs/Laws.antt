@@ -3,23 +3,22 @@ use Prim.Native.Nat.{ℕ, _+_, _-_, _^_, _≤_, _<_}
 use native.Mathlib.Omega.{arith}
 use mathlib.Core.Path.{_≡_, refl, _∙_, ap, sym}
 use mathlib.Core.List.{List, [], _∷_}
-use mathlib.Core.Bool.{Bool, true, false, not, cond, _&&_}
+use mathlib.Core.Bool.{Bool, true, false, not, cond, _&&_, and-false}
 use lib.Dec.{ltb}
 use lib.ListN.{length}
 use lib.Seq.{sets, sets-eq}
 use borrow.Rule.Slice.PartMut.{midOf, putMid}
-use native.Mathlib.Nat.{zero-add}
+use native.Mathlib.Nat.{zero-add, suc-ne-zero}
 use borrow.Author.Tests.{lt-ltb, le-ltb, ltb-false, eq-eqb, ne-eqb}
 use Rattle.utf8.specs.Rfc3629 as utf8
-use Rattle.utf8.specs.Rfc3629.{Encoded}
+use Rattle.utf8.specs.Rfc3629.{Text, none, Encoded}
 use Rattle.utf8.specs.Laws.{encoded-unique, place-within}
 use Rattle.utf8.specs.Decided.{decided}
 use Rattle.utf8.specs.declared.Encoding.{Encoding}
+use Rattle.utf8.specs.declared.Encoding.the-variants.{Valid}
 use Rattle.spelling.specs.Rows.{rows}
 use Rattle.spelling.specs.Spelling.{row, known, spelling}
 use Rattle.spelling.specs.Token.{TK-ID}
-use Rattle.spelling.specs.Table.{bytes, spellingIn}
-use Rattle.spelling.specs.Laws.{spells}
 use Rattle.laws.specs.First.{first, within, first-some, first-none, all-passed}
 use Rattle.laws.specs.Sets.{sets-within}
 use Rattle.stream.specs.Stream.{added, adds, leaves}
@@ -33,6 +32,11 @@ use Rattle.append.specs.declared.Check.{Check}
 use Rattle.append.specs.declared.Check.the-variants.{Fine, Refused}
 use Rattle.append.specs.Append.{Appends, numberOf, present, tokenOf, news, longest, broken, before, room, answerTo, recordAfter, outputAfter, place}
 use Rattle.append.specs.Steps.{Checks, Writes, emitted, counted}
+
+-- no bytes are a text
+no-bytes : (v : List ℕ) → length v ≡ 0 → Text v
+no-bytes [] e = none
+no-bytes (x ∷ v) e = absurd (suc-ne-zero (length v) e)
 
 -- ---- the refusals 1, 4, 2: each return is the first condition that holds
 module _ (rec : Stream) (size token : ℕ) (value : List ℕ) where
@@ -48,12 +52,18 @@ module _ (rec : Stream) (size token : ℕ) (value : List ℕ) where
     unfolding before
     unknown h = any (Refused Unknown) (λ e. rw (le-ltb size (rec .count) c, ← is-known, h))
 
-    module _ (p : Bool) (kn : not k ≡ false) (is-present : p ≡ present token) where
-      pub stray : (not p && ltb 0 (length value)) ≡ true → Checks rec size token value (Refused Unknown)
-      unfolding before
-      stray h = any (Refused Unknown) (λ e. rw (le-ltb size (rec .count) c, ← is-known, kn, ← is-present, h))
+    -- no value bytes, no more to refuse
+    pub empty : not k ≡ false → length value ≡ 0 → Checks rec size token value Fine
+    unfolding before broken
+    empty kn z =
+        record { encoding = Valid; encoded = no-bytes value z; is = rw (le-ltb size (rec .count) c, ← is-known, kn, z, and-false) }
 
-      module _ (st : (not p && ltb 0 (length value)) ≡ false) where
+    module _ (p : Bool) (kn : not k ≡ false) (is-present : p ≡ present token) where
+      pub stray : not p ≡ true → (length value ≡ 0 → ⊥) → Checks rec size token value (Refused Unknown)
+      unfolding before
+      stray h s = any (Refused Unknown) (λ e. rw (le-ltb size (rec .count) c, ← is-known, kn, ← is-present, h, lt-ltb 0 (length value) (omega arith)))
+
+      module _ (st : not p ≡ false) where
         pub too-long : longest < length value → Checks rec size token value (Refused TooLong)
         unfolding before
         too-long h = any (Refused TooLong) (λ e. rw (le-ltb size (rec .count) c, ← is-known, kn, ← is-present, st, lt-ltb longest (length value) h))
@@ -73,9 +83,9 @@ pub emits : (x : State) (b p : Bool) (part value word : List ℕ) (token k : ℕ
 unfolding emitted
 emits x b p part value word token k ek ep e = rw (ek, ep) at e
 
--- the table that is made is the spelling table
-pub word-is : (table word : List ℕ) (token k : ℕ) → table ≡ bytes → k ≡ numberOf token → word ≡ spellingIn table k → word ≡ spelling (numberOf token)
-word-is table word token k t e w = rw (t, e) at w ∙ spells (numberOf token)
+-- the word that is looked up
+pub word-is : (word : List ℕ) (token k : ℕ) → k ≡ numberOf token → word ≡ spelling k → word ≡ spelling (numberOf token)
+word-is word token k e w = rw e at w
 
 -- TK_ID has no spelling
 no-word : spelling TK-ID ≡ []

@@ -7,8 +7,8 @@ ghost use lib.ListN.{length};
 ghost use Rattle.spelling.specs.Spelling.{spelling};
 ghost use Rattle.append.specs.Append.{Appends, news, numberOf, present as present'};
 ghost use Rattle.append.specs.Steps.{Checks, Writes, emitted, counted};
-use spelling::table;
 use spelling::token::TK_ID;
+use spelling::words;
 use stream::Sink;
 use utf8::Encoding;
 
@@ -77,7 +77,10 @@ fn refusal(rec: Stream, size: usize, token: u16, value: &[u8]) -> Check
     if !spelling::known(number_of(token)) {
         return Check::Refused(Answer::Unknown);
     }
-    if !present(token) & (0 < value.len()) {
+    if value.len() == 0 {
+        return Check::Fine;
+    }
+    if !present(token) {
         return Check::Refused(Answer::Unknown);
     }
     if LONGEST < value.len() {
@@ -152,8 +155,10 @@ fn write(rec: Stream, out: &mut [u8], token: u16, value: &[u8]) -> Next
     if number == TK_ID {
         return write_word(rec, out, token, b"", value);
     }
-    let words = table();
-    write_word(rec, out, token, spelling::of(&words, number), value)
+    let word = words::of(number);
+    let bytes = word.bytes;
+    let len = word.len;
+    write_word(rec, out, token, &bytes[..len], value)
 }
 
 // One token appended: the answer, and the record that is left.
