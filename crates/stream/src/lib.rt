@@ -3,8 +3,9 @@
 // The sink takes everything: a byte that finds no room in the output is only counted, so to measure is to
 // append to an empty output, and measuring and writing are one function.
 ghost use mathlib.Core.Path.{_≡_};
-ghost use Prim.Native.Nat.{_+_, _≤_};
-ghost use lib.ListN.{length};
+ghost use Prim.Native.Nat.{_+_, _≤_, _<_, min};
+ghost use mathlib.Core.List.{[], _∷_};
+ghost use lib.ListN.{length, take};
 ghost use lib.Seq.{sets};
 ghost use Rattle.stream.specs.Stream.{some, tight as tight', opens as opens', gap as gap', gapped, blob as blob', spelledBit, written, valuedBit};
 ghost use Rattle.spelling.specs.Token.{TK-STRING};
@@ -20,6 +21,8 @@ use spelling::token::TK_SEMI;
 use spelling::token::TK_STRING;
 
 const MOST: usize = 0xffff_ffff_ffff_ffff;
+
+const SPACE: u8 = b' ';
 
 // It is handed on field by field: a copy of the whole would move its unused bytes too, and wait for them.
 pub struct Sink {
@@ -42,6 +45,85 @@ fn copy_to(out: &mut [u8], at: usize, v: &[u8])
     bytes::copy(v, &mut out[at..]);
 }
 
+// The first two bytes of v from at on.
+fn two(out: &mut [u8], at: usize, v: &[u8])
+    requires { ⌜ (2 ≤ length (now v)) × (at + 2 ≤ length (now out)) ⌝ }
+    ensures { λ _. ⌜ now (out .exit) ≡ sets (now (out .entry)) at (take 2 (now (v .entry))) ⌝ }
+{
+    let mut b = [0u8; 2];
+    bytes::copy(&v[..2], &mut b);
+    copy_to(out, at, &b);
+}
+
+// The first four bytes of v from at on.
+fn four(out: &mut [u8], at: usize, v: &[u8])
+    requires { ⌜ (4 ≤ length (now v)) × (at + 4 ≤ length (now out)) ⌝ }
+    ensures { λ _. ⌜ now (out .exit) ≡ sets (now (out .entry)) at (take 4 (now (v .entry))) ⌝ }
+{
+    let mut b = [0u8; 4];
+    bytes::copy(&v[..4], &mut b);
+    copy_to(out, at, &b);
+}
+
+// The first eight bytes of v from at on.
+fn eight(out: &mut [u8], at: usize, v: &[u8])
+    requires { ⌜ (8 ≤ length (now v)) × (at + 8 ≤ length (now out)) ⌝ }
+    ensures { λ _. ⌜ now (out .exit) ≡ sets (now (out .entry)) at (take 8 (now (v .entry))) ⌝ }
+{
+    let mut b = [0u8; 8];
+    bytes::copy(&v[..8], &mut b);
+    copy_to(out, at, &b);
+}
+
+// Up to three bytes from at on.
+fn few(out: &mut [u8], at: usize, v: &[u8])
+    requires { ⌜ (length (now v) < 4) × (at + length (now v) ≤ length (now out)) ⌝ }
+    ensures { λ _. ⌜ now (out .exit) ≡ sets (now (out .entry)) at (now (v .entry)) ⌝ }
+{
+    let n = v.len();
+    if n < 2 {
+        if n == 1 {
+            out[at] = v[0];
+        }
+        return;
+    }
+    let k = n - 2;
+    two(out, at, v);
+    two(out, at + k, &v[k..]);
+}
+
+// The same as copy_to, where up to sixteen bytes are two pieces that may overlap, each moved at once.
+fn lay(out: &mut [u8], at: usize, v: &[u8])
+    requires { ⌜ at + length (now v) ≤ length (now out) ⌝ }
+    ensures { λ _. ⌜ now (out .exit) ≡ sets (now (out .entry)) at (now (v .entry)) ⌝ }
+{
+    let n = v.len();
+    if n < 4 {
+        few(out, at, v);
+        return;
+    }
+    if n < 8 {
+        let k = n - 4;
+        four(out, at, v);
+        four(out, at + k, &v[k..]);
+        return;
+    }
+    if n <= 16 {
+        let k = n - 8;
+        eight(out, at, v);
+        eight(out, at + k, &v[k..]);
+        return;
+    }
+    copy_to(out, at, v);
+}
+
+// The smaller of two.
+fn least(a: usize, b: usize) -> usize
+    ensures { λ r. ⌜ r ≡ min a b ⌝ }
+{
+    if a <= b { a } else { b }
+}
+
 // v from at on, as much of it as there is room for.
 fn store(out: &mut [u8], at: usize, v: &[u8])
     ensures { λ _. ⌜ now (out .exit) ≡ sets (now (out .entry)) at (now (v .entry)) ⌝ }
@@ -49,12 +131,8 @@ fn store(out: &mut [u8], at: usize, v: &[u8])
     if out.len() <= at {
         return;
     }
-    let room = out.len() - at;
-    if v.len() <= room {
-        copy_to(out, at, v);
-    } else {
-        copy_to(out, at, &v[..room]);
-    }
+    let n = least(out.len() - at, v.len());
+    lay(out, at, &v[..n]);
 }
 
 // Bytes are stored and counted.
@@ -65,6 +143,27 @@ fn put(s: Sink, out: &mut [u8], v: &[u8]) -> Sink
     Sink {
         spaced: s.spaced,
         at: plus(s.at, v.len()),
+    }
+}
+
+// One byte at a place, where there is room for it.
+fn store_byte(out: &mut [u8], at: usize, b: u8)
+    ensures { λ _. ⌜ now (out .exit) ≡ sets (now (out .entry)) at (b ∷ []) ⌝ }
+{
+    if out.len() <= at {
+        return;
+    }
+    out[at] = b;
+}
+
+// A byte is stored and counted.
+fn put_byte(s: Sink, out: &mut [u8], b: u8) -> Sink
+    ensures { λ r. ⌜ (r, now (out .exit)) ≡ pour (s, now (out .entry)) (b ∷ []) ⌝ }
+{
+    store_byte(out, s.at, b);
+    Sink {
+        spaced: s.spaced,
+        at: plus(s.at, 1),
     }
 }
 
@@ -95,7 +194,7 @@ fn gap(s: Sink, out: &mut [u8], kind: u16) -> Sink
             at: s.at,
         }
     } else {
-        let t = put(s, out, b" ");
+        let t = put_byte(s, out, SPACE);
         Sink {
             spaced: true,
             at: t.at,
