@@ -6,14 +6,14 @@ use mathlib.Core.Path.{_≡_, refl, _∙_, sym, ap}
 use mathlib.Core.List.{List, [], _∷_}
 use mathlib.Core.Bool.{Bool, true, false, cond, _&&_, false≢true}
 use lib.Dec.{eqb, leb, ltb}
-use lib.ListN.{length, getD}
+use lib.ListN.{length, getD, List·getD-eq-default}
 use borrow.Author.Tests.{eqb-true, ne-eqb, leb-true, ltb-true, ltb-false}
 use Rattle.laws.specs.Among.{among, all}
 use Rattle.laws.specs.Below.{below, at}
 use Rattle.laws.specs.Bytes.{same, equal}
 use Rattle.laws.specs.Tests.{and-left, and-right}
-use Rattle.grammar.specs.Shape.{Class, one, list, oneOr, small}
-use Rattle.grammar.specs.Grammar.{shape}
+use Rattle.grammar.specs.Shape.{Class, one, list, oneOr, small, Shape, nothing}
+use Rattle.grammar.specs.Grammar.{table, lookup, shape}
 use Rattle.grammar.specs.Slots.{slotsOf, flagsBelow, allowed, elements}
 use Rattle.grammar.specs.Classes.{classes, classesHeld, classAt}
 use Rattle.grammar.specs.Packed.{kindsHeld, packed, bit, lowKinds, highKinds, sameClass, numberFrom, numbered, elementOf, ruleOf, slotOf, placesOf}
@@ -116,6 +116,46 @@ high-bit n k m e l h =
 pub no-bit : (n k : ℕ) → n < classesHeld → 128 ≤ k → false ≡ allowed (classAt n) k
 no-bit n k h l = sym (not-allowed (classAt n) k (at (λ m. lateless (classAt m)) classesHeld lateless-all n h) (omega arith))
 
+-- ---- past the last place nothing may stand, and no element has a place; past the last kind there are no flags and no slots
+past-places : (n : ℕ) → classesHeld ≤ n → classAt n ≡ one []
+unfolding classAt classes
+past-places n h = List·getD-eq-default classes (one []) h
+
+pub no-place : (n k : ℕ) → classesHeld ≤ n → false ≡ allowed (classAt n) k
+unfolding allowed
+no-place n k h = rw (past-places n h)
+
+nowhere : numbered (one []) ≡ 0
+unfolding numbered sameClass classes
+nowhere = refl
+
+pub no-element : (n : ℕ) → classesHeld ≤ n → 0 ≡ elementOf n
+unfolding elementOf elements
+no-element n h = sym (rw (past-places n h) nowhere)
+
+earlyKeys : List (ℕ × Shape) → Bool
+earlyKeys [] = true
+earlyKeys (r ∷ rs) = early (r .0) && earlyKeys rs
+
+no-entry : (rs : List (ℕ × Shape)) (k : ℕ) → earlyKeys rs ≡ true → kindsHeld ≤ k → lookup rs k ≡ nothing
+unfolding earlyKeys
+no-entry [] k h l = refl
+no-entry (r ∷ rs) k h l =
+    let s : r .0 < kindsHeld = ltb-true (r .0) kindsHeld (and-left (early (r .0)) (earlyKeys rs) h) in
+    rw (ne-eqb k (r .0) (λ e. omega arith), no-entry rs k (and-right (early (r .0)) (earlyKeys rs) h) l)
+
+no-shape : (k : ℕ) → kindsHeld ≤ k → shape k ≡ nothing
+unfolding shape earlyKeys
+no-shape k l = no-entry table k refl l
+
+pub no-rule : (k : ℕ) → kindsHeld ≤ k → 1 ≡ ruleOf k
+unfolding ruleOf flagsBelow slotsOf
+no-rule k l = rw (no-shape k l)
+
+pub no-slot : (k s : ℕ) → kindsHeld ≤ k → 0 ≡ slotOf k s
+unfolding slotOf slotsOf
+no-slot k s l = sym (rw (no-shape k l) nowhere)
+
 -- ---- the number of a place is that of a place that is the same
 numberFrom-within : (n : ℕ) (ds : List Class) (c : Class) → numberFrom n ds c ≤ n + length ds
 numberFrom-within n [] c = omega arith
@@ -205,10 +245,14 @@ module _ (k : ℕ) (h : k < kindsHeld) where
     unfolding slotOf
     slot-is = held-is (getD (slotsOf (shape k)) s (one [])) slot-right
 
-    -- a byte of the packed places
-    pub slot-byte : (m : ℕ) → m ≡ placesOf k → m / 2 ^ (8 * s) % 256 ≡ slotOf k s
-    unfolding placesOf
-    slot-byte m e =
-        let few : s < 8 = omega (arith, slots-few) in
-        rw (e, eqb-true (2 ^ (8 * s)) (256 ^ s) (at (λ j. eqb (2 ^ (8 * j)) (256 ^ j)) 8 refl s few))
-        (digit 256 (omega arith) (slotOf k) slot-small 0 8 s s few (omega arith))
+  -- past the slots there is no place
+  pub past-slots : (s : ℕ) → 8 ≤ s → 0 ≡ slotOf k s
+  unfolding slotOf
+  past-slots s l = sym (rw (List·getD-eq-default (slotsOf (shape k)) (one []) {n = s} (omega (arith, slots-few))) nowhere)
+
+  -- a byte of the packed places
+  pub slot-byte : (s : ℕ) → s < 8 → (m : ℕ) → m ≡ placesOf k → m / 2 ^ (8 * s) % 256 ≡ slotOf k s
+  unfolding placesOf
+  slot-byte s few m e =
+      rw (e, eqb-true (2 ^ (8 * s)) (256 ^ s) (at (λ j. eqb (2 ^ (8 * j)) (256 ^ j)) 8 refl s few))
+      (digit 256 (omega arith) (slotOf k) slot-small 0 8 s s few (omega arith))

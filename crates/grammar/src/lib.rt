@@ -6,9 +6,7 @@ pub mod kind;
 
 ghost use mathlib.Core.Path.{_≡_};
 ghost use Prim.Native.Nat.{_<_};
-ghost use lib.ListN.{length};
-ghost use Rattle.grammar.specs.Grammar.{shape};
-ghost use Rattle.grammar.specs.Slots.{slotsOf, allowed as allowed'};
+ghost use Rattle.grammar.specs.Slots.{allowed as allowed'};
 ghost use Rattle.grammar.specs.Classes.{classesHeld, classAt};
 ghost use Rattle.grammar.specs.Packed.{kindsHeld, lowKinds, highKinds, elementOf, ruleOf, placesOf, slotOf};
 
@@ -24,6 +22,19 @@ pub const SLOTS: u16 = 0x100;
 const HIGH: u16 = 64;
 
 const KINDS: u16 = 128;
+
+// How many places there are, and the first number past all kinds.
+const PLACES: u8 = 49;
+
+const KINDS_HELD: u16 = 121;
+
+// The place where nothing may stand, and the rule of what is no kind: no flags and no slots.
+const NOWHERE: u8 = 0;
+
+const BARE: u16 = 1;
+
+// No kind has more slots.
+const MOST_SLOTS: u16 = 8;
 
 // The place of a slot is a byte of its kind's number.
 const BYTE: u64 = 0x100;
@@ -150,9 +161,11 @@ fn high_kinds(place: u8) -> u64
 
 // Whether a record of a kind may stand in a place.
 pub fn allowed(place: u8, kind: u16) -> bool
-    requires { ⌜ place < classesHeld ⌝ }
     ensures { λ r. ⌜ r ≡ allowed' (classAt place) kind ⌝ }
 {
+    if PLACES <= place {
+        return false;
+    }
     if kind < HIGH {
         return (low_kinds(place) >> kind as u64) % 2 == 1;
     }
@@ -162,8 +175,8 @@ pub fn allowed(place: u8, kind: u16) -> bool
     (high_kinds(place) >> (kind - HIGH) as u64) % 2 == 1
 }
 
-// The place of each element, where a LIST stands in a place.
-pub fn element(place: u8) -> u8
+// The place of each element, where a LIST stands in a place that there is.
+fn element_held(place: u8) -> u8
     requires { ⌜ place < classesHeld ⌝ }
     ensures { λ r. ⌜ r ≡ elementOf place ⌝ }
 {
@@ -221,8 +234,18 @@ pub fn element(place: u8) -> u8
     }
 }
 
-// A kind's rule: the number that its flags are below, and from SLOTS on how many slots it has.
-pub fn rule(kind: u16) -> u16
+// The place of each element, where a LIST stands in a place.
+pub fn element(place: u8) -> u8
+    ensures { λ r. ⌜ r ≡ elementOf place ⌝ }
+{
+    if PLACES <= place {
+        return NOWHERE;
+    }
+    element_held(place)
+}
+
+// A kind's rule: the number that its flags are below, and from SLOTS on how many slots it has, of a kind that there is.
+fn rule_held(kind: u16) -> u16
     requires { ⌜ kind < kindsHeld ⌝ }
     ensures { λ r. ⌜ r ≡ ruleOf kind ⌝ }
 {
@@ -350,6 +373,16 @@ pub fn rule(kind: u16) -> u16
         120 => 0x201,
         _ => 0xffff,
     }
+}
+
+// A kind's rule: the number that its flags are below, and from SLOTS on how many slots it has.
+pub fn rule(kind: u16) -> u16
+    ensures { λ r. ⌜ r ≡ ruleOf kind ⌝ }
+{
+    if KINDS_HELD <= kind {
+        return BARE;
+    }
+    rule_held(kind)
 }
 
 // The places of a kind's slots, a byte each, the first slot's the lowest.
@@ -485,8 +518,13 @@ fn places(kind: u16) -> u64
 
 // The place of a slot of a kind.
 pub fn slot(kind: u16, s: u16) -> u8
-    requires { ⌜ (kind < kindsHeld) × (s < length (slotsOf (shape kind))) ⌝ }
     ensures { λ r. ⌜ r ≡ slotOf kind s ⌝ }
 {
+    if KINDS_HELD <= kind {
+        return NOWHERE;
+    }
+    if MOST_SLOTS <= s {
+        return NOWHERE;
+    }
     ((places(kind) >> (BITS * s) as u64) % BYTE) as u8
 }

@@ -1,20 +1,22 @@
--- `grammar::slot` meets its contract: a byte of the kind's places. No kind has more slots than eight, so the byte is there.
+-- `grammar::slot` meets its contract: past the last kind and past the slots there is no place, and else it is a byte of the kind's places.
 use native.Mathlib.Omega.{arith}
-use Rattle.grammar.specs.Laws.{slots-few, slot-byte}
 use borrow.Author.Needs.{needs}
+use Rattle.grammar.specs.Laws.{no-slot, past-slots, slot-byte}
 use Rattle.grammar.proofs.slot.Statement.{statement}
 use Rattle.grammar.proofs.slot.Tie as tie
 
-mul-result : tie.Need-mul-result
-mul-result c = omega (arith, c .before .pre .1, slots-few _ (c .before .pre .0))
-
-shr-result : tie.Need-shr-result
-shr-result c = omega (arith, c .before .pre .1, slots-few _ (c .before .pre .0))
-
 returns : tie.Need-returns
-returns c = slot-byte _ (c .before .pre .0) _ (c .before .pre .1) _ (c .places .ensures)
+returns c = no-slot _ _ (c .if1 .taken)
+
+returns-2 : tie.Need-returns-2
+returns-2 c = past-slots _ (c .before .if1 .left) _ (c .if2 .taken)
+
+returns-3 : tie.Need-returns-3
+returns-3 c = slot-byte _ (c .before .before .if1 .left) _ (c .before .if2 .left) _ (c .places .ensures)
 
 pub slot-spec : {M : Type 1} → statement M
 slot-spec =
     tie.close
-    (tie.spec (λ c κs. search needs) mul-result (λ c. search needs) shr-result (λ c. search needs) returns)
+    (tie.spec
+    returns returns-2 (λ c κs. search needs) (λ c. search needs) (λ c. search needs) (λ c. search needs)
+    (λ c. search needs) returns-3)

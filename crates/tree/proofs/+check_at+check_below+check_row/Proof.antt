@@ -129,9 +129,7 @@ check-below-met t =
     (λ c.  -- returns-2
     let at-args = c .before .before .before .before .before .before .before .args in
     rw (run-holds _ (at-args .r) (c .before .if2 .taken)) (c .check-tokens .ensures))
-    (λ c κs.  -- element-requires
-    let at-pre = c .before .before .before .before .before .before .pre in
-    at-pre .1 .1 .1 .0)
+    (λ c κs. search needs)  -- element-requires
     (λ c κs.  -- check-row-requires
     let at-args = c .before .before .before .before .before .before .before .args in
     let at-pre = c .before .before .before .before .before .before .before .pre in

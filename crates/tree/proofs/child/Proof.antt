@@ -7,9 +7,6 @@ use Rattle.tree.proofs.child.Tie as tie
 returns : tie.Need-returns
 returns c = (c .before .pre .0, list-child _ _ _ (c .if1 .taken))
 
-slot-requires : tie.Need-slot-requires
-slot-requires c κs = (c .before .pre .1 .0, c .before .pre .1 .1 (c .if1 .left))
-
 returns-2 : tie.Need-returns-2
 returns-2 c =
     let at-pre = c .before .before .pre in
@@ -17,4 +14,4 @@ returns-2 c =
     (slot-small _ _ (at-pre .1 .0) (at-pre .1 .1) (at-if1 .left) _ (c .slot .ensures), slot-child _ _ (at-pre .1 .0) (at-pre .1 .1) (at-if1 .left) _ (c .slot .ensures) _)
 
 pub child-spec : {M : Type 1} → statement M
-child-spec = tie.close (tie.spec returns slot-requires returns-2)
+child-spec = tie.close (tie.spec returns (λ c κs. search needs) returns-2)

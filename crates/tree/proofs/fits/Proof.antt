@@ -7,11 +7,6 @@ use Rattle.tree.proofs.fits.Tie as tie
 returns : tie.Need-returns
 returns c = not-allowed _ (c .before .before .args .r) _ (c .before .allowed .ensures) (c .if1 .taken)
 
-rule-requires : tie.Need-rule-requires
-rule-requires c κs =
-    let start = c .before .before in
-    kind-held _ (start .args .r) _ (start .pre) (c .before .allowed .ensures) (c .if1 .left)
-
 count-fits-requires : tie.Need-count-fits-requires
 count-fits-requires c κs =
     let at-allowed = c .before .before in
@@ -67,5 +62,5 @@ pub fits-spec : {M : Type 1} → statement M
 fits-spec =
     tie.close
     (tie.spec
-    (λ c κs. search needs) returns rule-requires count-fits-requires returns-2 flags-fit-requires returns-3
+    (λ c κs. search needs) returns (λ c κs. search needs) count-fits-requires returns-2 flags-fit-requires returns-3
     (λ c κs. search needs) returns-4 (λ c κs. search needs) returns-5)
