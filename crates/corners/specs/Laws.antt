@@ -3,9 +3,9 @@ use Prim.Native.Nat.{ℕ, zero, suc, _+_, _-_, _≤_, _<_, min}
 use native.Mathlib.Omega.{arith}
 use native.Mathlib.Nat.{not-suc-le-zero}
 use native.Mathlib.Numerals.{sub-one}
-use mathlib.Core.Path.{_≡_, refl, _∙_, ap, sym}
+use mathlib.Core.Path.{_≡_, refl, _∙_, sym}
 use mathlib.Core.List.{List, [], _∷_, _++_}
-use mathlib.Core.Bool.{Bool, true, false, cond, not, _&&_, _||_, false≢true}
+use mathlib.Core.Bool.{Bool, true, false, not, _&&_, _||_, false≢true}
 use lib.Dec.{eqb, ltb}
 use lib.ListN.{length, getD, take, drop, replicate, length-append, length-drop}
 use lib.Seq.{take-append-seam, drop-cons}
@@ -14,7 +14,7 @@ use borrow.Author.Tests.{ne-eqb, lt-ltb}
 use Rattle.decimal.specs.Decimal as decimal
 use Rattle.decimal.specs.Spells.{Spells}
 use Rattle.decimal.specs.declared.Decimal.{Decimal}
-use Rattle.white.specs.Parts.{parts, second, splitOf}
+use Rattle.white.specs.Parts.{parts, splitOf}
 use Rattle.white.specs.declared.Parts.{Parts}
 use Rattle.record.specs.Record.{recordAt, numberOf}
 use Rattle.record.specs.declared.Record.{Record}
@@ -25,10 +25,9 @@ use Rattle.grammar.specs.Grammar.{run}
 use Rattle.spelling.specs.Token.{TK-STRING, TK-WITHOUT, TK-LBRACKET, TK-RBRACKET}
 use Rattle.stream.specs.Stream.{Token, some}
 use Rattle.stream.specs.Sink.{between}
-use Rattle.stream.specs.declared.Sink.{Sink}
 use Rattle.tokens.specs.Corners.{bare, valued, id, newline, secondPart, without, dashes, sourced, quote, pairs}
 use Rattle.tokens.specs.Tokens as tokens
-use Rattle.tokens.specs.Tokens.{Out, at, behind, part, say, of, then, placed, checked, means}
+use Rattle.tokens.specs.Tokens.{Out, at, behind, part, say, of, placed, checked, means}
 use Rattle.pen.specs.declared.Pen.{Pen}
 use Rattle.pen.specs.Pen as pen
 use Rattle.pen.specs.Pen.{Spot, Past, emit, put, Puts, Says, Writes}

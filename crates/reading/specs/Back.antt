@@ -7,7 +7,7 @@ use mathlib.Core.Bool.{Bool, true, false, not, cond, _||_, _&&_, false≢true, a
 use lib.Dec.{eqb}
 use lib.ListN.{getD}
 use borrow.Author.Tests.{eqb-true, not-true}
-use Rattle.laws.specs.Among.{among, all}
+use Rattle.laws.specs.Among.{among, isNil, each}
 use Rattle.laws.specs.Tests.{and-left, and-right, or-left}
 use Rattle.laws.specs.Text.{ascii}
 use Rattle.blank.specs.Blank.{blank, allBlank}
@@ -20,7 +20,6 @@ use Rattle.reading.specs.Bytes.{digit, wordFirst, marks, dot, newline}
 use Rattle.reading.specs.Lexeme.{Kind, Word, Number, Quoted, Blob, Variable, Operator, Mark, operators, close, Lexeme, blob as a-blob, mark as a-mark}
 use Rattle.reading.specs.Reading.{Start, mark, nothing, blank as skipped, operatorByte, start, lexeme, read, Lexed, Cuts, ended, failed, next}
 use Rattle.reading.specs.Readable.{isNumber, Carries, fixed, word-line, semi-line, valued, blob, no-blob, isDot, beside, noDotBesideNumber, Carried, done, next as more}
-use Rattle.reading.specs.Taking.{each}
 use Rattle.reading.specs.Reads.{alike, startOf, Begins, starts-mark, first-byte, closers, loose, ends, reads}
 
 -- a lexeme has a first byte, so it is not empty, and that byte is no blank of the stream
@@ -55,10 +54,6 @@ not-blank κ w l = let f : Begins κ w = first-byte κ w l in rw (f .is, first-s
 no-spelling : spelling TK-BLOB ≡ []
 unfolding spelling row rows
 no-spelling = refl
-
-abbrev isNil : List ℕ → Bool
-isNil [] = true
-isNil (b ∷ w) = false
 
 not-blob : (k : ℕ) (κ : Kind) (w : List ℕ) → spelling k ≡ w → Lexeme κ w → eqb k TK-BLOB ≡ false
 not-blob k κ w e l = by (eqb k TK-BLOB) refl

@@ -5,7 +5,7 @@ use mathlib.Core.List.{List, [], _∷_, _++_, map}
 use mathlib.Core.Bool.{Bool, true, false, not, cond, _||_, _&&_, false≢true}
 use lib.Dec.{eqb}
 use borrow.Author.Tests.{eqb-true, not-true}
-use Rattle.laws.specs.Among.{among, all}
+use Rattle.laws.specs.Among.{among, all, isNil}
 use Rattle.laws.specs.Tests.{and-left, and-right}
 use Rattle.laws.specs.Text.{ascii}
 use Rattle.spelling.specs.Token.{TK-BLOB, TK-SEMI}
@@ -95,10 +95,6 @@ isBlob x (b ∷ v) = among x exes && (eqb b apostrophe && isPairs v)
 abbrev isNamed : ℕ → List ℕ → Bool
 isNamed b [] = false
 isNamed b (c ∷ v) = among b (ascii ":@$") && all wordByte (c ∷ v)
-
-abbrev isNil : List ℕ → Bool
-isNil [] = true
-isNil (b ∷ v) = false
 
 abbrev pub isLexeme : Kind → List ℕ → Bool
 isLexeme κ [] = false

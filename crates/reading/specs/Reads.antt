@@ -5,7 +5,7 @@ use mathlib.Core.List.{List, [], _∷_, _++_}
 use mathlib.Core.Bool.{Bool, true, false, not, cond, _||_, _&&_, false≢true, and-false}
 use lib.Dec.{eqb}
 use borrow.Author.Tests.{eqb-true, not-true}
-use Rattle.laws.specs.Among.{among, all}
+use Rattle.laws.specs.Among.{among, all, each}
 use Rattle.laws.specs.Bytes.{same, equal}
 use Rattle.laws.specs.Tests.{and-left, and-right}
 use Rattle.laws.specs.Text.{ascii}
@@ -14,7 +14,7 @@ use Rattle.reading.specs.Number.{Numeral, taken, number}
 use Rattle.reading.specs.Lexeme.{Kind, Word, Number, Quoted, Blob, Variable, Operator, Mark, operators, listed, Quotation, Pairs, Lexeme, word as a-word, number as a-number, quoted, blob, numbered, named, operator as an-operator, mark as a-mark}
 use Rattle.reading.specs.Reading.{operatorByte, Start, blank, mark, quote, digits, word, variable, operator, nothing, start, opened, lexeme, read}
 use Rattle.reading.specs.Readable.{isNumber}
-use Rattle.reading.specs.Taking.{each, stops, takes-all, closing-all, through-all}
+use Rattle.reading.specs.Taking.{stops, takes-all, closing-all, through-all}
 use Rattle.reading.specs.Numbers.{Counted, counted}
 
 -- ways to begin, told apart by numbers

@@ -1,26 +1,17 @@
 -- What is taken of a text: bytes of a sort to the first that is not of it, a quotation, a blob.
 use Prim.Native.Nat.{ℕ}
-use mathlib.Core.Path.{_≡_, refl, ap, subst, sym, _∙_}
+use mathlib.Core.Path.{_≡_, refl, ap, _∙_}
 use mathlib.Core.List.{List, [], _∷_, _++_}
-use mathlib.Core.Bool.{Bool, true, false, not, _||_, false≢true}
+use mathlib.Core.Bool.{Bool, true, false, not}
 use lib.Dec.{eqb}
-use borrow.Author.Tests.{eqb-true, eq-eqb, not-true}
-use Rattle.laws.specs.Among.{among, all}
+use borrow.Author.Tests.{eq-eqb, not-true}
+use Rattle.laws.specs.Among.{all, each}
 use Rattle.laws.specs.Tests.{and-left, and-right}
 use Rattle.laws.specs.Text.{ascii}
 use Rattle.reading.specs.Bytes.{hexDigit, apostrophe}
 use Rattle.reading.specs.Number.{taken, after, takes}
 use Rattle.reading.specs.Lexeme.{Quotation, close, doubled, other, Pairs, close as shut, pair}
 use Rattle.reading.specs.Reading.{through, closing}
-
--- a sort of bytes holds of all of a list, so of each that is among them
-pub each : (p : ℕ → Bool) (b : ℕ) (l : List ℕ) → all p l ≡ true → among b l ≡ true → p b ≡ true
-each p b [] h i = absurd (false≢true i)
-each p b (c ∷ l) h i = by (eqb b c) refl i (each p b l (and-right (p c) (all p l) h))
-  where
-    by : (t : Bool) → eqb b c ≡ t → (t || among b l) ≡ true → (among b l ≡ true → p b ≡ true) → p b ≡ true
-    by true e i k = subst (λ (x : ℕ). p x ≡ true) (sym (eqb-true b c e)) (and-left (p c) (all p l) h)
-    by false e i k = k i
 
 -- the next byte, if there is one, is not of the sort
 abbrev pub stops : (ℕ → Bool) → List ℕ → Bool

@@ -5,8 +5,8 @@ use mathlib.Core.Path.{_≡_, refl}
 use mathlib.Core.List.{List, []}
 use mathlib.Core.Bool.{Bool, true, false, not, _&&_, _||_, Bool·beq, and-false}
 use lib.Dec.{eqb, leb, ltb}
-use lib.ListN.{length, getD, take, drop, List·getD-eq-default}
-use borrow.Author.Tests.{le-leb, lt-leb, leb-true, le-ltb, lt-ltb, ltb-true, ltb-false, ne-eqb}
+use lib.ListN.{length, take, drop, List·getD-eq-default}
+use borrow.Author.Tests.{le-leb, lt-leb, leb-true, le-ltb, ltb-true, ltb-false, ne-eqb}
 use Rattle.laws.specs.Among.{all}
 use Rattle.blank.specs.Blank.{blank}
 use Rattle.laws.specs.Below.{below, at}

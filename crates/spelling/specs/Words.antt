@@ -1,11 +1,12 @@
 -- A spelling in two numbers of eight bytes each, the lowest byte first: the first eight bytes, and what is behind them.
-use Prim.Native.Nat.{ℕ, _≤_, _<_, _%_}
+use Prim.Native.Nat.{ℕ, _-_, _≤_, _%_}
 use native.Mathlib.Omega.{arith}
 use mathlib.Core.Path.{_≡_, refl, sym, _∙_}
-use mathlib.Core.List.{List, [], _∷_, _++_}
+use mathlib.Core.List.{List, _++_}
 use mathlib.Core.Bool.{Bool, true, false, _||_, false≢true}
 use lib.Dec.{eqb}
-use lib.ListN.{length, take, drop, drop-of-length-le}
+use lib.ListN.{length, take, drop, replicate, length-append, drop-of-length-le}
+use lib.Seq.{take-append-seam}
 use borrow.Author.Tests.{eqb-true}
 use Rattle.laws.specs.Among.{among}
 use Rattle.laws.specs.Apart.{Apart, absent}
@@ -22,6 +23,10 @@ first k = fromLittle (take 8 (spelling k))
 
 unfoldable pub rest : ℕ → ℕ
 rest k = fromLittle (drop 8 (spelling k))
+
+-- a spelling, and zeros behind it up to sixteen bytes
+unfoldable pub padded : ℕ → List ℕ
+padded k = spelling k ++ replicate (16 - length (spelling k)) 0
 
 -- the bytes that two numbers hold
 abbrev pub bytesOf : ℕ → ℕ → List ℕ
@@ -62,13 +67,23 @@ length-is k =
     (λ l. eqb-true (rowOf k % lengths) (length (spelling k)) (at (λ n. eqb (rowOf n % lengths) (length (spelling n))) count length-below k l))
     (λ l. rw (silent k (omega arith), row-none k (omega arith)))
 
--- the two numbers hold the spelling
-holds-below : below (λ k. same (take (length (spelling k)) (bytesOf (first k) (rest k))) (spelling k)) count ≡ true
-unfolding first rest spelling row rows
+-- the two numbers hold the spelling and the zeros
+holds-below : below (λ k. same (bytesOf (first k) (rest k)) (padded k)) count ≡ true
+unfolding first rest padded spelling row rows
 holds-below = refl
 
-pub holds : (k : ℕ) → take (length (spelling k)) (bytesOf (first k) (rest k)) ≡ spelling k
+pub holds : (k : ℕ) → bytesOf (first k) (rest k) ≡ padded k
+unfolding padded
 holds k =
-    everywhere (λ n. take (length (spelling n)) (bytesOf (first n) (rest n)) ≡ spelling n) k
-    (λ l. equal _ (spelling k) (at (λ n. same (take (length (spelling n)) (bytesOf (first n) (rest n))) (spelling n)) count holds-below k l))
-    (λ l. rw (silent k (omega arith)))
+    everywhere (λ n. bytesOf (first n) (rest n) ≡ padded n) k
+    (λ l. equal (bytesOf (first k) (rest k)) (padded k) (at (λ n. same (bytesOf (first n) (rest n)) (padded n)) count holds-below k l))
+    (λ l. rw (first-past k (omega arith), rest-past k (omega arith), silent k (omega arith)))
+
+-- so many of them as the spelling is long are the spelling
+pub begins : (k n : ℕ) (bs : List ℕ) → bs ≡ padded k → n ≡ length (spelling k) → take n bs ≡ spelling k
+unfolding padded
+begins k n bs e l = rw (e, l) (take-append-seam (spelling k) (replicate (16 - length (spelling k)) 0))
+
+pub within : (k n : ℕ) (bs : List ℕ) → bs ≡ padded k → n ≡ length (spelling k) → n ≤ length bs
+unfolding padded
+within k n bs e l = rw (e, l, length-append (spelling k) (replicate (16 - length (spelling k)) 0)) (omega arith)

@@ -1,10 +1,10 @@
 // The spellings as numbers, for a caller that looks up one and has no pool: a `match` over constants is a table that is
 // not made anew in each call.
 ghost use mathlib.Core.Path.{_≡_};
-ghost use Prim.Native.Nat.{_≤_, _%_};
-ghost use lib.ListN.{length, take};
+ghost use Prim.Native.Nat.{_%_};
+ghost use lib.ListN.{length};
 ghost use Rattle.spelling.specs.Spelling.{spelling};
-ghost use Rattle.spelling.specs.Words.{first as first', rest as rest', bytesOf};
+ghost use Rattle.spelling.specs.Words.{first as first', rest as rest', padded, bytesOf};
 use super::LENGTHS;
 use super::row;
 use super::token;
@@ -12,7 +12,7 @@ use super::token;
 // A number holds eight bytes, the first one lowest.
 const HELD: usize = 8;
 
-// A spelling: the first len of the bytes.
+// A spelling: the first len of the bytes, and zeros behind it.
 pub struct Word {
     pub bytes: [u8; 16],
     pub len: usize,
@@ -314,7 +314,7 @@ fn bytes_of(a0: u64, b0: u64) -> [u8; 16]
 
 // What a token number is spelled as: len is 0 where it has no fixed spelling.
 pub fn of(number: u16) -> Word
-    ensures { λ r. ⌜ (take (r .len) (r .bytes) ≡ spelling number) × (r .len ≤ length (r .bytes)) ⌝ }
+    ensures { λ r. ⌜ (r .bytes ≡ padded number) × (r .len ≡ length (spelling number)) ⌝ }
 {
     let len = length_of(number);
     let bytes = bytes_of(first(number), behind(number, len));

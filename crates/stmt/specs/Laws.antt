@@ -12,7 +12,7 @@ use Rattle.spelling.specs.Token.{TK-INSERT, TK-OR, TK-REPLACE}
 use Rattle.record.specs.Record.{recordAt}
 use Rattle.record.specs.declared.Record.{Record}
 use Rattle.grammar.specs.Kind.{RUN, REPLACE, AlterTable, Delete, Savepoint}
-use Rattle.grammar.specs.Shape.{Shape, word, slot, given, replacing, _·_}
+use Rattle.grammar.specs.Shape.{Shape, word, slot, given, _·_}
 use Rattle.grammar.specs.Grammar.{from, run, maybe, clause, conflict, shape}
 use Rattle.grammar.specs.Slots.{allowed}
 use Rattle.tokens.specs.Tokens.{Source, of, flagged, placed, means, node}

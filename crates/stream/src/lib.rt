@@ -146,14 +146,14 @@ fn put(s: Sink, out: &mut [u8], v: &[u8]) -> Sink
     }
 }
 
-// One byte at a place, where there is room for it.
-fn store_byte(out: &mut [u8], at: usize, b: u8)
-    ensures { λ _. ⌜ now (out .exit) ≡ sets (now (out .entry)) at (b ∷ []) ⌝ }
+// One byte at an index, where there is room for it.
+fn store_byte(out: &mut [u8], i: usize, b: u8)
+    ensures { λ _. ⌜ now (out .exit) ≡ sets (now (out .entry)) i (b ∷ []) ⌝ }
 {
-    if out.len() <= at {
+    if out.len() <= i {
         return;
     }
-    out[at] = b;
+    out[i] = b;
 }
 
 // A byte is stored and counted.

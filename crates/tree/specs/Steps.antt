@@ -1,10 +1,10 @@
 -- Laws of the walk on child records: the places of a record's children, and the way along them.
-use Prim.Native.Nat.{ℕ, zero, suc, _+_, _-_, _≤_, _<_}
+use Prim.Native.Nat.{ℕ, _+_, _-_, _≤_, _<_}
 use native.Mathlib.Omega.{arith}
 use native.Mathlib.Numerals.{add-one}
-use mathlib.Core.Path.{_≡_, refl, _∙_, ap, sym}
+use mathlib.Core.Path.{_≡_, refl, _∙_, sym}
 use mathlib.Core.List.{List, [], _∷_, _++_, map}
-use mathlib.Core.Bool.{Bool, true, false, cond, _&&_, _||_}
+use mathlib.Core.Bool.{Bool, true, false, cond, _||_}
 use lib.Dec.{eqb}
 use lib.ListN.{length, getD, drop, replicate, drop-of-length-le, getD-replicate, length-replicate}
 use lib.Seq.{drop-cons}
@@ -15,13 +15,13 @@ use Rattle.record.specs.declared.Record.{Record}
 use Rattle.grammar.specs.Kind.{LIST, RUN, TOKEN}
 use Rattle.grammar.specs.Shape.{Class, one}
 use Rattle.grammar.specs.Grammar.{shape}
-use Rattle.grammar.specs.Slots.{slotsOf, allowed, elements}
+use Rattle.grammar.specs.Slots.{slotsOf, allowed}
 use Rattle.grammar.specs.Classes.{classesHeld, classAt, tokenAt, token-is}
 use Rattle.grammar.specs.Packed.{kindsHeld, elementOf, slotOf}
 use Rattle.grammar.specs.Laws.{allowed-held, element-held, element-is, slot-held, slot-is}
 use Rattle.tree.specs.Check.{Place, place, holds, fits, scan}
 use Rattle.tree.specs.Laws.{token-holds}
-use Rattle.tree.specs.Walk.{refused, Walks, resumed, resumed-next, resumed-refused}
+use Rattle.tree.specs.Walk.{refused, Walks, resumed-next, resumed-refused}
 
 -- the places of the n children of a kind: e is the place of a LIST's elements
 unfoldable pub children : ℕ → ℕ → ℕ → List Class

@@ -2,6 +2,7 @@
 use native.Mathlib.Omega.{arith}
 use mathlib.Core.Path.{sym}
 use lib.Seq.{length-take-le}
+use Rattle.spelling.specs.Words.{begins, within}
 use Rattle.append.specs.Laws.{word-is, word-none}
 use borrow.Author.Needs.{needs}
 use Rattle.append.proofs.write.Statement.{statement}
@@ -14,16 +15,19 @@ write-word-requires c κs =
     (at-pre, word-none _ _ (at-number-of .ensures) (c .before .before .if1 .taken))
 
 array-share-prefix-bytes : tie.Need-array-share-prefix-bytes
-array-share-prefix-bytes c = omega (arith, c .before .before .of .ensures .1)
+array-share-prefix-bytes c = let word = c .before .before .of in omega (arith, within _ _ (word .result .bytes) (word .ensures .0) (word .ensures .1))
 
 slice-aggregate-write-word-2 : tie.Need-slice-aggregate-write-word-2
-slice-aggregate-write-word-2 c = let word = c .before .before .before .of in sym (length-take-le _ (word .result .bytes) (word .ensures .1))
+slice-aggregate-write-word-2 c =
+    let word = c .before .before .before .of in
+    sym (length-take-le _ (word .result .bytes) (within _ _ (word .result .bytes) (word .ensures .0) (word .ensures .1)))
 
 write-word-requires-2 : tie.Need-write-word-requires-2
 write-word-requires-2 c κs =
     let at-pre = c .before .before .before .before .before .before .before .before .pre in
     let at-number-of = c .before .before .before .before .before .number-of in
-    (at-pre, word-is _ _ _ (at-number-of .ensures) (c .before .before .before .of .ensures .0))
+    let word = c .before .before .before .of in
+    (at-pre, word-is _ _ _ (at-number-of .ensures) (begins _ _ (word .result .bytes) (word .ensures .0) (word .ensures .1)))
 
 pub write-spec : {M : Type 1} → statement M
 write-spec =

@@ -1,5 +1,4 @@
 -- `grammar::slot` meets its contract: past the last kind and past the slots there is no place, and else it is a byte of the kind's places.
-use native.Mathlib.Omega.{arith}
 use borrow.Author.Needs.{needs}
 use Rattle.grammar.specs.Laws.{no-slot, past-slots, slot-byte}
 use Rattle.grammar.proofs.slot.Statement.{statement}

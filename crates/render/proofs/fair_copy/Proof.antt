@@ -1,8 +1,5 @@
 -- `render::fair_copy` meets its contract: a draft with room for the text begins with it, and else the text is written.
-use native.Mathlib.Omega.{arith}
-use mathlib.Core.Path.{sym, _∙_}
-use Prim.Native.Nat.{_≤_}
-use lib.ListN.{length, take}
+use mathlib.Core.Path.{sym}
 use lib.Seq.{length-take-le}
 use borrow.Author.Needs.{needs}
 use Rattle.render.specs.Laws.{copied}

@@ -1,4 +1,4 @@
--- `stream::store_byte` meets its contract: past the end nothing is stored. Assumes nothing.
+-- `stream::store_byte` meets its contract: past the end nothing is stored.
 use mathlib.Core.Path.{sym}
 use mathlib.Core.List.{[], _∷_}
 use Rattle.laws.specs.Sets.{sets-past}
@@ -9,7 +9,7 @@ use Rattle.stream.proofs.store_byte.Tie as tie
 returns : tie.Need-returns
 returns c =
     let start = c .before .args in
-    sym (sets-past (start .b ∷ []) (start .out .now) (start .at) (c .if1 .taken))
+    sym (sets-past (start .b ∷ []) (start .out .now) (start .i) (c .if1 .taken))
 
 pub store-byte-spec : {M : Type 1} → statement M
 store-byte-spec = tie.close (tie.spec returns (λ c. search needs) (λ c. search needs) (λ c. search needs))

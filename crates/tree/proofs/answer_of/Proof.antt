@@ -1,6 +1,5 @@
 -- `tree::answer_of` meets its contract: an answer for each number.
 use Rattle.tree.specs.Laws.{is-mark, is-misfit, is-outside, is-deep, is-ends}
-use borrow.Author.Needs.{needs}
 use Rattle.tree.proofs.answer_of.Statement.{statement}
 use Rattle.tree.proofs.answer_of.Tie as tie
 

@@ -1,7 +1,5 @@
 -- `tree::check_records` meets its contract: the walk of the root comes to the scan of all records.
-use native.Mathlib.Omega.{arith}
 use mathlib.Core.Path.{_∙_, sym}
-use Rattle.tree.specs.Steps.{children}
 use Rattle.tree.specs.Whole.{root-row, root-walk, all-filled, else-refused}
 use borrow.Author.Needs.{needs}
 use Rattle.tree.proofs.check_records.Statement.{statement}

@@ -1,6 +1,5 @@
 -- `tree::count_fits` meets its contract: any number for a LIST and a RUN, and else that of the kind's rule.
 use Rattle.tree.specs.Laws.{any-count, slot-count}
-use borrow.Author.Needs.{needs}
 use Rattle.tree.proofs.count_fits.Statement.{statement}
 use Rattle.tree.proofs.count_fits.Tie as tie
 

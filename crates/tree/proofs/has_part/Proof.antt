@@ -1,6 +1,5 @@
 -- `tree::has_part` meets its contract: a TOKEN with a value, and a TEXT.
 use Rattle.tree.specs.Laws.{token-part, other-part}
-use borrow.Author.Needs.{needs}
 use Rattle.tree.proofs.has_part.Statement.{statement}
 use Rattle.tree.proofs.has_part.Tie as tie
 

@@ -1,7 +1,5 @@
--- `spelling::words::of` meets its contract: the two numbers hold the spelling, which is short.
-use native.Mathlib.Omega.{arith}
+-- `spelling::words::of` meets its contract: the two numbers hold the spelling.
 use borrow.Author.Needs.{needs}
-use Rattle.spelling.specs.Laws.{short}
 use Rattle.spelling.specs.Words.{holds}
 use Rattle.spelling.proofs.words.of.Statement.{statement}
 use Rattle.spelling.proofs.words.of.Tie as tie
@@ -12,8 +10,7 @@ returns c =
     let at-first = at-behind .before in
     let at-length = at-first .before in
     let number = at-length .before .args .number in
-    rw (at-length .length-of .ensures, c .bytes-of .ensures, at-behind .behind .ensures, at-first .first .ensures)
-    (holds number, omega (arith, short number))
+    (rw (c .bytes-of .ensures, at-behind .behind .ensures, at-first .first .ensures) (holds number), at-length .length-of .ensures)
 
 pub of-spec : {M : Type 1} → statement M
 of-spec =
