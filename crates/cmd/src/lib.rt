@@ -1,6 +1,5 @@
 // Cmd and the root of a tree (01, section 2): what a whole tree writes.
 ghost use mathlib.Core.Path.{_≡_};
-ghost use mathlib.Core.List.{[], _∷_};
 ghost use Rattle.record.specs.declared.Record.{Record as Record'};
 ghost use Rattle.grammar.specs.Kind.{Cmd, Select};
 ghost use Rattle.grammar.specs.Shape.{one, slot};

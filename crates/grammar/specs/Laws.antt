@@ -1,22 +1,23 @@
--- The grammar in numbers says what the grammar says: digits of a packed number, the kinds that may stand in a place, and what the places of elements and slots and a kind's rule are, which is computed at each.
+-- The grammar in numbers says what the grammar says: the bit of each kind in each place, the row of a LIST's elements, and the rule and the row of each kind, which are computed.
 use Prim.Native.Nat.{ℕ, zero, suc, _+_, _-_, _*_, _/_, _%_, _^_, _≤_, _<_}
 use native.Mathlib.Omega.{arith}
-use native.Mathlib.Nat.{not-suc-le-zero, div-one, pow-zero, pow-succ', div-eq-of-lt, div-div-eq-div-mul, add-mul-div-left, add-mul-mod-self-left, mod-eq-of-lt}
+use native.Mathlib.Nat.{not-suc-le-zero, div-one, pow-zero, pow-succ', div-div-eq-div-mul}
 use mathlib.Core.Path.{_≡_, refl, _∙_, sym, ap}
 use mathlib.Core.List.{List, [], _∷_}
 use mathlib.Core.Bool.{Bool, true, false, cond, _&&_, false≢true}
-use lib.Dec.{eqb, leb, ltb}
-use lib.ListN.{length, getD, List·getD-eq-default}
-use borrow.Author.Tests.{eqb-true, ne-eqb, leb-true, ltb-true, ltb-false}
+use lib.Dec.{eqb, ltb}
+use lib.ListN.{length, replicate, List·getD-eq-default}
+use borrow.Author.Tests.{eqb-true, eq-eqb, ne-eqb, lt-ltb, ltb-true, ltb-false}
 use Rattle.laws.specs.Among.{among, all}
 use Rattle.laws.specs.Below.{below, at}
 use Rattle.laws.specs.Bytes.{same, equal}
-use Rattle.laws.specs.Tests.{and-left, and-right}
+use Rattle.laws.specs.Tests.{and-left, and-right, and-both}
+use Rattle.grammar.specs.Kind.{LIST}
 use Rattle.grammar.specs.Shape.{Class, one, list, oneOr, small, Shape, nothing}
 use Rattle.grammar.specs.Grammar.{table, lookup, shape}
 use Rattle.grammar.specs.Slots.{slotsOf, flagsBelow, allowed, elements}
 use Rattle.grammar.specs.Classes.{classes, classesHeld, classAt}
-use Rattle.grammar.specs.Packed.{kindsHeld, packed, bit, lowKinds, highKinds, sameClass, numberFrom, numbered, elementOf, ruleOf, slotOf, placesOf}
+use Rattle.grammar.specs.Packed.{kindsHeld, bits, lowKinds, highKinds, sameClass, numbered, elementOf, ruleOf, placesOf, each, rowOf, turn, along, allHeld}
 
 -- ---- two places are the same
 same-class : (c d : Class) → sameClass c d ≡ true → c ≡ d
@@ -37,24 +38,6 @@ same-class small (one ys) h = absurd (false≢true h)
 same-class small (list d) h = absurd (false≢true h)
 same-class small (oneOr ys d) h = absurd (false≢true h)
 same-class small small h = refl
-
--- ---- a digit of a packed number
-module _ (b : ℕ) (pos : 0 < b) (g : ℕ → ℕ) (small-digits : (j : ℕ) → g j < b) where
-  others : (k n : ℕ) → packed b g k (suc n) / b ≡ packed b g (k + 1) n
-  others k n =
-      let m = packed b g (k + 1) n in
-      let z : 0 + m ≡ m = omega arith in
-      add-mul-div-left (g k) m pos ∙ ap (λ (q : ℕ). q + m) (div-eq-of-lt (small-digits k)) ∙ z
-
-  digit : (k n s j : ℕ) → s < n → k + s ≡ j → packed b g k n / b ^ s % b ≡ g j
-  digit k zero s j h e = absurd (not-suc-le-zero h)
-  digit k (suc n) zero j h e =
-      let z : k ≡ j = omega arith in
-      rw (pow-zero b, div-one (packed b g k (suc n)))
-      (add-mul-mod-self-left (g k) b (packed b g (k + 1) n) ∙ mod-eq-of-lt (small-digits k) ∙ ap g z)
-  digit k (suc n) (suc s) j h e =
-      rw (pow-succ' b s, ← div-div-eq-div-mul (packed b g k (suc n)) b (b ^ s), others k n)
-      (digit (k + 1) n s j (omega arith) (omega arith))
 
 -- ---- no place takes a kind past the last
 abbrev early : ℕ → Bool
@@ -93,25 +76,34 @@ allowed-held n k h t = by (ltb k kindsHeld) refl
         absurd (false≢true z)
 
 -- ---- the bit of a kind
-bit-small : (n k : ℕ) → bit n k < 2
-bit-small n k = by (allowed (classAt n) k)
-  where
-    by : (b : Bool) → cond b 1 0 < 2
-    by true = omega arith
-    by false = omega arith
+bit-small : (b : Bool) → cond b 1 0 < 2
+bit-small true = omega arith
+bit-small false = omega arith
 
 bit-is : (b : Bool) → eqb (cond b 1 0) 1 ≡ b
 bit-is true = refl
 bit-is false = refl
 
+module _ (f : ℕ → Bool) where
+  later : (k n : ℕ) → bits f k (suc n) / 2 ≡ bits f (k + 1) n
+  later k n = let l = bit-small (f k) in omega arith
+
+  nth-bit : (k n s j : ℕ) → s < n → k + s ≡ j → bits f k n / 2 ^ s % 2 ≡ cond (f j) 1 0
+  nth-bit k zero s j h e = absurd (not-suc-le-zero h)
+  nth-bit k (suc n) zero j h e =
+      let z : k ≡ j = omega arith in
+      rw (pow-zero 2, div-one (bits f k (suc n)), ← z) (let l = bit-small (f k) in omega arith)
+  nth-bit k (suc n) (suc s) j h e =
+      rw (pow-succ' 2 s, ← div-div-eq-div-mul (bits f k (suc n)) 2 (2 ^ s), later k n)
+      (nth-bit (k + 1) n s j (omega arith) (omega arith))
+
 pub low-bit : (n k m : ℕ) → m ≡ lowKinds n → k < 64 → eqb (m / 2 ^ k % 2) 1 ≡ allowed (classAt n) k
 unfolding lowKinds
-low-bit n k m e h = rw (e, digit 2 (omega arith) (bit n) (bit-small n) 0 64 k k h (omega arith)) (bit-is (allowed (classAt n) k))
+low-bit n k m e h = rw (e, nth-bit (allowed (classAt n)) 0 64 k k h (omega arith)) (bit-is (allowed (classAt n) k))
 
 pub high-bit : (n k m : ℕ) → m ≡ highKinds n → 64 ≤ k → k < 128 → eqb (m / 2 ^ (k - 64) % 2) 1 ≡ allowed (classAt n) k
 unfolding highKinds
-high-bit n k m e l h =
-    rw (e, digit 2 (omega arith) (bit n) (bit-small n) 64 64 (k - 64) k (omega arith) (omega arith)) (bit-is (allowed (classAt n) k))
+high-bit n k m e l h = rw (e, nth-bit (allowed (classAt n)) 64 64 (k - 64) k (omega arith) (omega arith)) (bit-is (allowed (classAt n) k))
 
 pub no-bit : (n k : ℕ) → n < classesHeld → 128 ≤ k → false ≡ allowed (classAt n) k
 no-bit n k h l = sym (not-allowed (classAt n) k (at (λ m. lateless (classAt m)) classesHeld lateless-all n h) (omega arith))
@@ -152,60 +144,90 @@ pub no-rule : (k : ℕ) → kindsHeld ≤ k → 1 ≡ ruleOf k
 unfolding ruleOf flagsBelow slotsOf
 no-rule k l = rw (no-shape k l)
 
-pub no-slot : (k s : ℕ) → kindsHeld ≤ k → 0 ≡ slotOf k s
-unfolding slotOf slotsOf
-no-slot k s l = sym (rw (no-shape k l) nowhere)
+pub no-places : (k : ℕ) → kindsHeld ≤ k → 0 ≡ placesOf k
+unfolding placesOf slotsOf
+no-places k l = rw (no-shape k l)
 
--- ---- the number of a place is that of a place that is the same
-numberFrom-within : (n : ℕ) (ds : List Class) (c : Class) → numberFrom n ds c ≤ n + length ds
-numberFrom-within n [] c = omega arith
-numberFrom-within n (d ∷ ds) c = by (sameClass d c) (numberFrom-within (n + 1) ds c)
+-- ---- the elements of each place, and the row of a LIST
+abbrev elementRight : ℕ → Bool
+elementRight n = ltb (elementOf n) classesHeld && sameClass (classAt (elementOf n)) (elements (classAt n))
+
+elements-right : below elementRight classesHeld ≡ true
+unfolding elementOf numbered sameClass classAt classes elements
+elements-right = refl
+
+-- a row that is turned has no more bytes
+pub turn-small : (p : ℕ) → p < 2 ^ 64 → p / 256 + p % 256 * 2 ^ 56 < 2 ^ 64
+turn-small p h = bytes-small (p / 256) (p % 256) (omega arith) (omega arith)
   where
-    by : (b : Bool) → numberFrom (n + 1) ds c ≤ n + 1 + length ds → cond b n (numberFrom (n + 1) ds c) ≤ n + suc (length ds)
-    by true h = omega arith
-    by false h = omega arith
+    bytes-small : (a b : ℕ) → a < 2 ^ 56 → b < 256 → a + b * 2 ^ 56 < 2 ^ 64
+    bytes-small a b h l = omega arith
 
-numbered-byte : (c : Class) → numbered c < 256
-unfolding numbered classes
-numbered-byte c = omega (arith, numberFrom-within 0 classes c)
+-- a row of one place over and over is the same when it is turned
+abbrev over : ℕ → Bool
+over e = eqb (e * each % 256) e && eqb (turn (e * each)) (e * each)
 
-abbrev held : Class → Bool
-held c = ltb (numbered c) classesHeld && sameClass (classAt (numbered c)) c
+all-over : below over classesHeld ≡ true
+unfolding turn
+all-over = refl
 
-module _ (c : Class) (h : held c ≡ true) where
-  held-within : numbered c < classesHeld
-  held-within = ltb-true (numbered c) classesHeld (and-left (ltb (numbered c) classesHeld) _ h)
+module _ (e : ℕ) (h : e < classesHeld) where
+  same-first : e * each % 256 ≡ e
+  same-first = eqb-true (e * each % 256) e (and-left (eqb (e * each % 256) e) _ (at over classesHeld all-over e h))
 
-  held-is : classAt (numbered c) ≡ c
-  held-is = same-class (classAt (numbered c)) c (and-right (ltb (numbered c) classesHeld) _ h)
+  same-turned : turn (e * each) ≡ e * each
+  same-turned = eqb-true (turn (e * each)) (e * each) (and-right (eqb (e * each % 256) e) _ (at over classesHeld all-over e h))
 
--- ---- the elements of each place
-elements-held : below (λ n. held (elements (classAt n))) classesHeld ≡ true
-unfolding numbered sameClass classAt classes elements
-elements-held = refl
+  same-along : (m : ℕ) → along (e * each) m ≡ replicate m (classAt e)
+  same-along zero = refl
+  same-along (suc m) = rw (same-first, same-turned, same-along m)
+
+  same-held : (m : ℕ) → allHeld (e * each) m ≡ true
+  same-held zero = refl
+  same-held (suc m) = rw (same-first, same-turned) (and-both (ltb e classesHeld) _ (lt-ltb e classesHeld h) (same-held m))
 
 module _ (n : ℕ) (h : n < classesHeld) where
-  element-right : held (elements (classAt n)) ≡ true
-  element-right = at (λ m. held (elements (classAt m))) classesHeld elements-held n h
+  element-right : elementRight n ≡ true
+  element-right = at elementRight classesHeld elements-right n h
 
   pub element-held : elementOf n < classesHeld
-  unfolding elementOf
-  element-held = held-within (elements (classAt n)) element-right
+  element-held = ltb-true (elementOf n) classesHeld (and-left (ltb (elementOf n) classesHeld) _ element-right)
 
-  pub element-is : classAt (elementOf n) ≡ elements (classAt n)
-  unfolding elementOf
-  element-is = held-is (elements (classAt n)) element-right
+  element-is : classAt (elementOf n) ≡ elements (classAt n)
+  element-is = same-class (classAt (elementOf n)) (elements (classAt n)) (and-right (ltb (elementOf n) classesHeld) _ element-right)
 
--- ---- the rule and the slots of each kind: no kind has more slots than eight
-abbrev slotHeld : ℕ → ℕ → Bool
-slotHeld k s = held (getD (slotsOf (shape k)) s (one []))
+  module _ (k : ℕ) (is-list : k ≡ LIST) (m : ℕ) where
+    pub list-along : along (rowOf n k) m ≡ replicate m (elements (classAt n))
+    unfolding rowOf
+    list-along = rw (eq-eqb k LIST is-list, ← element-is) (same-along (elementOf n) element-held m)
+
+    pub list-held : allHeld (rowOf n k) m ≡ true
+    unfolding rowOf
+    list-held = rw (eq-eqb k LIST is-list) (same-held (elementOf n) element-held m)
+
+-- ---- the rule and the slots of each kind
+sameAll : List Class → List Class → Bool
+sameAll [] [] = true
+sameAll [] (d ∷ ds) = false
+sameAll (c ∷ cs) [] = false
+sameAll (c ∷ cs) (d ∷ ds) = sameClass c d && sameAll cs ds
+
+same-all : (cs ds : List Class) → sameAll cs ds ≡ true → cs ≡ ds
+unfolding sameAll
+same-all [] [] h = refl
+same-all [] (d ∷ ds) h = absurd (false≢true h)
+same-all (c ∷ cs) [] h = absurd (false≢true h)
+same-all (c ∷ cs) (d ∷ ds) h =
+    rw (same-class c d (and-left (sameClass c d) (sameAll cs ds) h), same-all cs ds (and-right (sameClass c d) (sameAll cs ds) h))
+
+abbrev rowRight : ℕ → List Class → Bool
+rowRight p cs = sameAll (along p (length cs)) cs && allHeld p (length cs)
 
 abbrev kindRight : ℕ → Bool
-kindRight k =
-    ltb (flagsBelow (shape k)) 256 && (leb (length (slotsOf (shape k))) 8 && below (slotHeld k) (length (slotsOf (shape k))))
+kindRight k = ltb (flagsBelow (shape k)) 256 && rowRight (placesOf k) (slotsOf (shape k))
 
 kinds-right : below kindRight kindsHeld ≡ true
-unfolding numbered sameClass classAt classes slotsOf flagsBelow shape
+unfolding sameAll placesOf turn numbered sameClass classAt classes slotsOf flagsBelow shape
 kinds-right = refl
 
 module _ (k : ℕ) (h : k < kindsHeld) where
@@ -215,44 +237,31 @@ module _ (k : ℕ) (h : k < kindsHeld) where
   flags-few : flagsBelow (shape k) < 256
   flags-few = ltb-true (flagsBelow (shape k)) 256 (and-left (ltb (flagsBelow (shape k)) 256) _ right)
 
-  slots-right : leb (length (slotsOf (shape k))) 8 && below (slotHeld k) (length (slotsOf (shape k))) ≡ true
-  slots-right = and-right (ltb (flagsBelow (shape k)) 256) _ right
-
-  pub slots-few : length (slotsOf (shape k)) ≤ 8
-  slots-few = leb-true (length (slotsOf (shape k))) 8 (and-left (leb (length (slotsOf (shape k))) 8) _ slots-right)
-
   pub rule-flags : ruleOf k % 256 ≡ flagsBelow (shape k)
   unfolding ruleOf
-  rule-flags = add-mul-mod-self-left (flagsBelow (shape k)) 256 (length (slotsOf (shape k))) ∙ mod-eq-of-lt flags-few
+  rule-flags = let l = flags-few in omega arith
 
   pub rule-slots : ruleOf k / 256 ≡ length (slotsOf (shape k))
   unfolding ruleOf
-  rule-slots = add-mul-div-left (flagsBelow (shape k)) (length (slotsOf (shape k))) (omega arith) ∙ ap (λ (z : ℕ). z + length (slotsOf (shape k))) (div-eq-of-lt flags-few) ∙ omega arith
+  rule-slots = let l = flags-few in omega arith
 
-  slot-small : (s : ℕ) → slotOf k s < 256
-  unfolding slotOf
-  slot-small s = numbered-byte (getD (slotsOf (shape k)) s (one []))
+  row-right : rowRight (placesOf k) (slotsOf (shape k)) ≡ true
+  row-right = and-right (ltb (flagsBelow (shape k)) 256) _ right
 
-  module _ (s : ℕ) (l : s < length (slotsOf (shape k))) where
-    slot-right : slotHeld k s ≡ true
-    slot-right = at (slotHeld k) (length (slotsOf (shape k))) (and-right (leb (length (slotsOf (shape k))) 8) _ slots-right) s l
+  module _ (no-list : k ≡ LIST → ⊥) (n : ℕ) where
+    pub slots-along : along (rowOf n k) (length (slotsOf (shape k))) ≡ slotsOf (shape k)
+    unfolding rowOf
+    slots-along = rw (ne-eqb k LIST no-list) (same-all _ (slotsOf (shape k)) (and-left (sameAll (along (placesOf k) (length (slotsOf (shape k)))) (slotsOf (shape k))) _ row-right))
 
-    pub slot-held : slotOf k s < classesHeld
-    unfolding slotOf
-    slot-held = held-within (getD (slotsOf (shape k)) s (one [])) slot-right
+    pub slots-held : allHeld (rowOf n k) (length (slotsOf (shape k))) ≡ true
+    unfolding rowOf
+    slots-held = rw (ne-eqb k LIST no-list) (and-right (sameAll (along (placesOf k) (length (slotsOf (shape k)))) (slotsOf (shape k))) _ row-right)
 
-    pub slot-is : classAt (slotOf k s) ≡ getD (slotsOf (shape k)) s (one [])
-    unfolding slotOf
-    slot-is = held-is (getD (slotsOf (shape k)) s (one [])) slot-right
+-- ---- the row of a kind in a place
+pub list-row : (n k e : ℕ) → k ≡ LIST → e ≡ elementOf n → e * each ≡ rowOf n k
+unfolding rowOf
+list-row n k e h q = rw (eq-eqb k LIST h, q)
 
-  -- past the slots there is no place
-  pub past-slots : (s : ℕ) → 8 ≤ s → 0 ≡ slotOf k s
-  unfolding slotOf
-  past-slots s l = sym (rw (List·getD-eq-default (slotsOf (shape k)) (one []) {n = s} (omega (arith, slots-few))) nowhere)
-
-  -- a byte of the packed places
-  pub slot-byte : (s : ℕ) → s < 8 → (m : ℕ) → m ≡ placesOf k → m / 2 ^ (8 * s) % 256 ≡ slotOf k s
-  unfolding placesOf
-  slot-byte s few m e =
-      rw (e, eqb-true (2 ^ (8 * s)) (256 ^ s) (at (λ j. eqb (2 ^ (8 * j)) (256 ^ j)) 8 refl s few))
-      (digit 256 (omega arith) (slotOf k) slot-small 0 8 s s few (omega arith))
+pub slots-row : (n k p : ℕ) → (k ≡ LIST → ⊥) → p ≡ placesOf k → p ≡ rowOf n k
+unfolding rowOf
+slots-row n k p h q = rw (ne-eqb k LIST h) q

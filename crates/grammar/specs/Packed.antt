@@ -1,31 +1,32 @@
 -- The grammar in numbers, as the code looks it up: the kinds that may stand in a place, the number of a place, a kind's rule and its slots' places.
-use Prim.Native.Nat.{ℕ, zero, suc, _+_, _*_}
-use mathlib.Core.List.{List, [], _∷_}
+use Prim.Native.Nat.{ℕ, zero, suc, _+_, _*_, _/_, _%_, _^_}
+use mathlib.Core.List.{List, [], _∷_, map}
 use mathlib.Core.Bool.{Bool, true, false, cond, _&&_}
-use lib.ListN.{length, getD}
+use lib.Dec.{eqb, ltb}
+use lib.ListN.{length}
 use Rattle.laws.specs.Bytes.{same}
+use Rattle.laws.specs.Little.{fromLittle}
+use Rattle.grammar.specs.Kind.{LIST}
 use Rattle.grammar.specs.Shape.{Class, one, list, oneOr, small}
 use Rattle.grammar.specs.Grammar.{shape}
 use Rattle.grammar.specs.Slots.{slotsOf, flagsBelow, allowed, elements}
-use Rattle.grammar.specs.Classes.{classes, classAt}
+use Rattle.grammar.specs.Classes.{classes, classesHeld, classAt}
 
+-- the kinds are the numbers below this one
 abbrev pub kindsHeld : ℕ
 kindsHeld = 121
 
--- n digits in a base, from g k on, the lowest first
-abbrev pub packed : ℕ → (ℕ → ℕ) → ℕ → ℕ → ℕ
-packed b g k zero = 0
-packed b g k (suc n) = g k + b * packed b g (k + 1) n
-
 -- ---- a place: a bit for each kind that may stand there
-abbrev pub bit : ℕ → ℕ → ℕ
-bit n k = cond (allowed (classAt n) k) 1 0
+-- the n kinds from k on that pass a test, a bit for each, the first the lowest
+abbrev pub bits : (ℕ → Bool) → ℕ → ℕ → ℕ
+bits f k zero = 0
+bits f k (suc n) = cond (f k) 1 0 + 2 * bits f (k + 1) n
 
 unfoldable pub lowKinds : ℕ → ℕ
-lowKinds n = packed 2 (bit n) 0 64
+lowKinds n = bits (allowed (classAt n)) 0 64
 
 unfoldable pub highKinds : ℕ → ℕ
-highKinds n = packed 2 (bit n) 64 64
+highKinds n = bits (allowed (classAt n)) 64 64
 
 -- ---- the number of a place
 unfoldable pub sameClass : Class → Class → Bool
@@ -57,12 +58,31 @@ numbered c = numberFrom 0 classes c
 unfoldable pub elementOf : ℕ → ℕ
 elementOf n = numbered (elements (classAt n))
 
--- ---- a kind: the number that its flags are below, with how many slots it has; and the place of each slot, a byte each
+-- ---- a kind: the number that its flags are below, with how many slots it has
 unfoldable pub ruleOf : ℕ → ℕ
 ruleOf k = flagsBelow (shape k) + 256 * length (slotsOf (shape k))
 
-unfoldable pub slotOf : ℕ → ℕ → ℕ
-slotOf k s = numbered (getD (slotsOf (shape k)) s (one []))
-
+-- ---- a row of places: a byte for each child, the first the lowest
 unfoldable pub placesOf : ℕ → ℕ
-placesOf k = packed 256 (slotOf k) 0 8
+placesOf k = fromLittle (map numbered (slotsOf (shape k)))
+
+-- a one in each of eight bytes
+abbrev pub each : ℕ
+each = 0x0101010101010101
+
+-- the row of the children of kind k that stands in place n: a LIST's elements all stand in the same one
+unfoldable pub rowOf : ℕ → ℕ → ℕ
+rowOf n k = cond (eqb k LIST) (elementOf n * each) (placesOf k)
+
+-- a row from its second child on: behind the eighth comes the first
+unfoldable pub turn : ℕ → ℕ
+turn p = p / 256 + p % 256 * 2 ^ 56
+
+-- what may stand in the first n places of a row, and whether they are all places
+abbrev pub along : ℕ → ℕ → List Class
+along p zero = []
+along p (suc n) = classAt (p % 256) ∷ along (turn p) n
+
+abbrev pub allHeld : ℕ → ℕ → Bool
+allHeld p zero = true
+allHeld p (suc n) = ltb (p % 256) classesHeld && allHeld (turn p) n

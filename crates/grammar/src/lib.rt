@@ -5,10 +5,10 @@
 pub mod kind;
 
 ghost use mathlib.Core.Path.{_≡_};
-ghost use Prim.Native.Nat.{_<_};
+ghost use Prim.Native.Nat.{_%_, _<_};
 ghost use Rattle.grammar.specs.Slots.{allowed as allowed'};
 ghost use Rattle.grammar.specs.Classes.{classesHeld, classAt};
-ghost use Rattle.grammar.specs.Packed.{kindsHeld, lowKinds, highKinds, elementOf, ruleOf, placesOf, slotOf};
+ghost use Rattle.grammar.specs.Packed.{kindsHeld, lowKinds, highKinds, elementOf, ruleOf, placesOf, rowOf, turn};
 
 // The places that the check names itself: the root, and a NUMBER up to 255.
 pub const ROOT: u8 = 1;
@@ -28,18 +28,21 @@ const PLACES: u8 = 49;
 
 const KINDS_HELD: u16 = 121;
 
-// The place where nothing may stand, and the rule of what is no kind: no flags and no slots.
+// The place where nothing may stand; the rule of what is no kind: no flags and no slots; and its row.
 const NOWHERE: u8 = 0;
 
 const BARE: u16 = 1;
 
-// No kind has more slots.
-const MOST_SLOTS: u16 = 8;
+const NO_ROW: u64 = 0;
 
-// The place of a slot is a byte of its kind's number.
+// A row of places is a number, a byte for each child, the first child's the lowest. It goes round: behind the eighth comes the first.
 const BYTE: u64 = 0x100;
 
-const BITS: u16 = 8;
+// The weight of the highest byte.
+const TOP: u64 = 0x100_0000_0000_0000;
+
+// A one in each byte.
+const EACH: u64 = 0x101_0101_0101_0101;
 
 // The kinds below HIGH that may stand in a place, a bit for each.
 fn low_kinds(place: u8) -> u64
@@ -235,7 +238,7 @@ fn element_held(place: u8) -> u8
 }
 
 // The place of each element, where a LIST stands in a place.
-pub fn element(place: u8) -> u8
+fn element(place: u8) -> u8
     ensures { λ r. ⌜ r ≡ elementOf place ⌝ }
 {
     if PLACES <= place {
@@ -244,7 +247,7 @@ pub fn element(place: u8) -> u8
     element_held(place)
 }
 
-// A kind's rule: the number that its flags are below, and from SLOTS on how many slots it has, of a kind that there is.
+// A kind's rule: the number that its flags are below, and from SLOTS on how many slots it has. The kind is one that there is.
 fn rule_held(kind: u16) -> u16
     requires { ⌜ kind < kindsHeld ⌝ }
     ensures { λ r. ⌜ r ≡ ruleOf kind ⌝ }
@@ -385,8 +388,8 @@ pub fn rule(kind: u16) -> u16
     rule_held(kind)
 }
 
-// The places of a kind's slots, a byte each, the first slot's the lowest.
-fn places(kind: u16) -> u64
+// The row of the slots of a kind that there is.
+fn places_held(kind: u16) -> u64
     requires { ⌜ kind < kindsHeld ⌝ }
     ensures { λ r. ⌜ r ≡ placesOf kind ⌝ }
 {
@@ -516,15 +519,36 @@ fn places(kind: u16) -> u64
     }
 }
 
-// The place of a slot of a kind.
-pub fn slot(kind: u16, s: u16) -> u8
-    ensures { λ r. ⌜ r ≡ slotOf kind s ⌝ }
+// The row of a kind's slots.
+fn places(kind: u16) -> u64
+    ensures { λ r. ⌜ r ≡ placesOf kind ⌝ }
 {
     if KINDS_HELD <= kind {
-        return NOWHERE;
+        return NO_ROW;
     }
-    if MOST_SLOTS <= s {
-        return NOWHERE;
+    places_held(kind)
+}
+
+// The row of the children of a kind that stands in a place: a LIST's elements all stand in the same one, and any other kind has slots.
+pub fn row(place: u8, kind: u16) -> u64
+    ensures { λ r. ⌜ r ≡ rowOf place kind ⌝ }
+{
+    if kind == kind::LIST {
+        return element(place) as u64 * EACH;
     }
-    ((places(kind) >> (BITS * s) as u64) % BYTE) as u8
+    places(kind)
+}
+
+// The place of a row's first child.
+pub fn first(row: u64) -> u8
+    ensures { λ r. ⌜ r ≡ row % 256 ⌝ }
+{
+    (row % BYTE) as u8
+}
+
+// A row from its second child on.
+pub fn turned(row: u64) -> u64
+    ensures { λ r. ⌜ r ≡ turn row ⌝ }
+{
+    row / BYTE + row % BYTE * TOP
 }

@@ -1,6 +1,6 @@
 // What fmt.rs's renderers share: runs and texts, lists of runs, parts that are there if a field is given or filled.
 ghost use mathlib.Core.Path.{_≡_};
-ghost use mathlib.Core.List.{[], _∷_};
+ghost use mathlib.Core.List.{[]};
 ghost use lib.ListN.{take, drop};
 ghost use mathlib.Core.Bool.{cond};
 ghost use Rattle.grammar.specs.Shape.{word as word', when, slot, commas as commas', row, lines as lines', tuples as tuples', filled, _·_};

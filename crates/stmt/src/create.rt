@@ -1,6 +1,5 @@
 // Statements that make something.
 ghost use mathlib.Core.Path.{_≡_};
-ghost use mathlib.Core.List.{[], _∷_};
 ghost use Prim.Native.Nat.{ℕ};
 ghost use Rattle.record.specs.declared.Record.{Record as Record'};
 ghost use Rattle.grammar.specs.Kind.{CreateIndex, CreateTable, CreateTrigger, CreateView, CreateMaterializedView, CreateVirtualTable, CreateType, CreateDomain, CreateSequence};

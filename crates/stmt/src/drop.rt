@@ -1,6 +1,5 @@
 // Statements that drop something.
 ghost use mathlib.Core.Path.{_≡_};
-ghost use mathlib.Core.List.{[], _∷_};
 ghost use Prim.Native.Nat.{ℕ};
 ghost use Rattle.record.specs.declared.Record.{Record as Record'};
 ghost use Rattle.spelling.specs.Token.{TK-DROP};

@@ -1,5 +1,4 @@
 // Statements that change the rows of a table.
-ghost use mathlib.Core.List.{[], _∷_};
 ghost use Rattle.grammar.specs.Kind.{Delete, Insert, Update};
 ghost use Rattle.grammar.specs.Grammar.{shape};
 ghost use Rattle.pen.specs.Pen.{source, Always, Below};

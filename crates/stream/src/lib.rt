@@ -24,6 +24,15 @@ const MOST: usize = 0xffff_ffff_ffff_ffff;
 
 const SPACE: u8 = b' ';
 
+// Bytes are moved in pieces of so many, and up to BOTH of them in two pieces of eight.
+const TWO: usize = 2;
+
+const FOUR: usize = 4;
+
+const EIGHT: usize = 8;
+
+const BOTH: usize = 16;
+
 // It is handed on field by field: a copy of the whole would move its unused bytes too, and wait for them.
 pub struct Sink {
     pub spaced: bool,
@@ -50,8 +59,8 @@ fn two(out: &mut [u8], at: usize, v: &[u8])
     requires { ⌜ (2 ≤ length (now v)) × (at + 2 ≤ length (now out)) ⌝ }
     ensures { λ _. ⌜ now (out .exit) ≡ sets (now (out .entry)) at (take 2 (now (v .entry))) ⌝ }
 {
-    let mut b = [0u8; 2];
-    bytes::copy(&v[..2], &mut b);
+    let mut b = [0u8; TWO];
+    bytes::copy(&v[..TWO], &mut b);
     copy_to(out, at, &b);
 }
 
@@ -60,8 +69,8 @@ fn four(out: &mut [u8], at: usize, v: &[u8])
     requires { ⌜ (4 ≤ length (now v)) × (at + 4 ≤ length (now out)) ⌝ }
     ensures { λ _. ⌜ now (out .exit) ≡ sets (now (out .entry)) at (take 4 (now (v .entry))) ⌝ }
 {
-    let mut b = [0u8; 4];
-    bytes::copy(&v[..4], &mut b);
+    let mut b = [0u8; FOUR];
+    bytes::copy(&v[..FOUR], &mut b);
     copy_to(out, at, &b);
 }
 
@@ -70,8 +79,8 @@ fn eight(out: &mut [u8], at: usize, v: &[u8])
     requires { ⌜ (8 ≤ length (now v)) × (at + 8 ≤ length (now out)) ⌝ }
     ensures { λ _. ⌜ now (out .exit) ≡ sets (now (out .entry)) at (take 8 (now (v .entry))) ⌝ }
 {
-    let mut b = [0u8; 8];
-    bytes::copy(&v[..8], &mut b);
+    let mut b = [0u8; EIGHT];
+    bytes::copy(&v[..EIGHT], &mut b);
     copy_to(out, at, &b);
 }
 
@@ -81,13 +90,13 @@ fn few(out: &mut [u8], at: usize, v: &[u8])
     ensures { λ _. ⌜ now (out .exit) ≡ sets (now (out .entry)) at (now (v .entry)) ⌝ }
 {
     let n = v.len();
-    if n < 2 {
+    if n < TWO {
         if n == 1 {
             out[at] = v[0];
         }
         return;
     }
-    let k = n - 2;
+    let k = n - TWO;
     two(out, at, v);
     two(out, at + k, &v[k..]);
 }
@@ -98,18 +107,18 @@ fn lay(out: &mut [u8], at: usize, v: &[u8])
     ensures { λ _. ⌜ now (out .exit) ≡ sets (now (out .entry)) at (now (v .entry)) ⌝ }
 {
     let n = v.len();
-    if n < 4 {
+    if n < FOUR {
         few(out, at, v);
         return;
     }
-    if n < 8 {
-        let k = n - 4;
+    if n < EIGHT {
+        let k = n - FOUR;
         four(out, at, v);
         four(out, at + k, &v[k..]);
         return;
     }
-    if n <= 16 {
-        let k = n - 8;
+    if n <= BOTH {
+        let k = n - EIGHT;
         eight(out, at, v);
         eight(out, at + k, &v[k..]);
         return;

@@ -1,72 +1,25 @@
 -- Laws of the walk on child records: the places of a record's children, and the way along them.
-use Prim.Native.Nat.{ℕ, _+_, _-_, _≤_, _<_}
+use Prim.Native.Nat.{ℕ, suc, _+_, _-_, _%_, _≤_, _<_}
 use native.Mathlib.Omega.{arith}
-use native.Mathlib.Numerals.{add-one}
-use mathlib.Core.Path.{_≡_, refl, _∙_, sym}
+use mathlib.Core.Path.{_≡_, refl, _∙_, ap, sym}
 use mathlib.Core.List.{List, [], _∷_, _++_, map}
-use mathlib.Core.Bool.{Bool, true, false, cond, _||_}
-use lib.Dec.{eqb}
-use lib.ListN.{length, getD, drop, replicate, drop-of-length-le, getD-replicate, length-replicate}
-use lib.Seq.{drop-cons}
-use borrow.Author.Tests.{eqb-true, eq-eqb, ne-eqb}
+use mathlib.Core.Bool.{Bool, true, false, _||_}
+use lib.Dec.{eqb, ltb}
+use lib.ListN.{length, replicate}
+use borrow.Author.Tests.{eqb-true, eqb-false, eq-eqb, ne-eqb, ltb-true}
 use Rattle.laws.specs.Tests.{and-left, and-right}
 use Rattle.record.specs.Record.{count}
 use Rattle.record.specs.declared.Record.{Record}
 use Rattle.grammar.specs.Kind.{LIST, RUN, TOKEN}
-use Rattle.grammar.specs.Shape.{Class, one}
+use Rattle.grammar.specs.Shape.{Class}
 use Rattle.grammar.specs.Grammar.{shape}
-use Rattle.grammar.specs.Slots.{slotsOf, allowed}
+use Rattle.grammar.specs.Slots.{slotsOf, allowed, elements}
 use Rattle.grammar.specs.Classes.{classesHeld, classAt, tokenAt, token-is}
-use Rattle.grammar.specs.Packed.{kindsHeld, elementOf, slotOf}
-use Rattle.grammar.specs.Laws.{allowed-held, element-held, element-is, slot-held, slot-is}
+use Rattle.grammar.specs.Packed.{kindsHeld, rowOf, turn, along, allHeld}
+use Rattle.grammar.specs.Laws.{allowed-held, list-along, list-held, slots-along, slots-held}
 use Rattle.tree.specs.Check.{Place, place, holds, fits, scan}
 use Rattle.tree.specs.Laws.{token-holds}
 use Rattle.tree.specs.Walk.{refused, Walks, resumed-next, resumed-refused}
-
--- the places of the n children of a kind: e is the place of a LIST's elements
-unfoldable pub children : ℕ → ℕ → ℕ → List Class
-children e k n = cond (eqb k LIST) (replicate n (classAt e)) (slotsOf (shape k))
-
--- the place of child s
-unfoldable pub childAt : ℕ → ℕ → ℕ → Class
-childAt e k s = cond (eqb k LIST) (classAt e) (getD (slotsOf (shape k)) s (one []))
-
--- a kind that is no LIST has a slot s
-abbrev pub Slotted : ℕ → ℕ → Type 0
-Slotted k s = (k ≡ LIST → ⊥) → s < length (slotsOf (shape k))
-
--- ---- one child
-pub list-child : (e k s : ℕ) → k ≡ LIST → classAt e ≡ childAt e k s
-unfolding childAt
-list-child e k s h = rw (eq-eqb k LIST h)
-
-module _ (k s : ℕ) (h : k < kindsHeld) (l : Slotted k s) (ne : k ≡ LIST → ⊥) (p : ℕ) (named : p ≡ slotOf k s) where
-  pub slot-small : p < classesHeld
-  slot-small = rw named (slot-held k h s (l ne))
-
-  pub slot-child : (e : ℕ) → classAt p ≡ childAt e k s
-  unfolding childAt
-  slot-child e = rw (ne-eqb k LIST ne, named) (slot-is k h s (l ne))
-
-module _ (e k n s : ℕ) (counted : n ≡ length (children e k n)) where
-  pub children-end : n ≤ s → length (children e k n) ≤ s
-  children-end l = omega (arith, counted)
-
-  module _ (l : s < n) where
-    pub child-in : s < length (children e k n)
-    child-in = omega (arith, counted)
-
-    pub slotted : Slotted k s
-    unfolding children
-    slotted ne = let q = rw (ne-eqb k LIST ne) at counted in omega arith
-
-    pub child-there : childAt e k s ≡ getD (children e k n) s (one [])
-    unfolding children childAt
-    child-there = by (eqb k LIST)
-      where
-        by : (b : Bool) → cond b (classAt e) (getD (slotsOf (shape k)) s (one [])) ≡ getD (cond b (replicate n (classAt e)) (slotsOf (shape k))) s (one [])
-        by true = sym (getD-replicate n s (classAt e) (one []) l)
-        by false = refl
 
 -- ---- the children of a record that fits
 module _ (c : Class) (r : Record) (fe : fits c r ≡ true) where
@@ -89,13 +42,36 @@ pub run-holds : (c : Class) (r : Record) → r .kind ≡ RUN → holds c r ≡ r
 unfolding holds
 run-holds c r e = rw (e, token-is)
 
-module _ (n e : ℕ) (h : n < classesHeld) (q : e ≡ elementOf n) where
-  pub element-small : e < classesHeld
-  element-small = rw q (element-held n h)
+-- the row of a record that fits and is no RUN is that of its children's places
+module _ (n : ℕ) (r : Record) (h : n < classesHeld) (fe : fits (classAt n) r ≡ true) (no-run : r .kind ≡ RUN → ⊥) where
+  list-holds : r .kind ≡ LIST → holds (classAt n) r ≡ replicate (r .kids) (elements (classAt n))
+  unfolding holds
+  list-holds e = rw (eq-eqb (r .kind) LIST e)
 
-  pub row-holds : (r : Record) → (r .kind ≡ RUN → ⊥) → holds (classAt n) r ≡ children e (r .kind) (r .kids)
-  unfolding holds children
-  row-holds r ne = rw (ne-eqb (r .kind) RUN ne, q, element-is n h)
+  slots-hold : (r .kind ≡ LIST → ⊥) → holds (classAt n) r ≡ slotsOf (shape (r .kind))
+  unfolding holds
+  slots-hold e = rw (ne-eqb (r .kind) LIST e, ne-eqb (r .kind) RUN no-run)
+
+  slots-counted : (r .kind ≡ LIST → ⊥) → r .kids ≡ length (slotsOf (shape (r .kind)))
+  slots-counted e = rw (slots-hold e) at (kids-are (classAt n) r fe)
+
+  pub row-holds : holds (classAt n) r ≡ along (rowOf n (r .kind)) (r .kids)
+  row-holds = by (eqb (r .kind) LIST) refl
+    where
+      by : (b : Bool) → eqb (r .kind) LIST ≡ b → holds (classAt n) r ≡ along (rowOf n (r .kind)) (r .kids)
+      by true e = let l = eqb-true (r .kind) LIST e in list-holds l ∙ sym (list-along n h (r .kind) l (r .kids))
+      by false e =
+          let l = eqb-false (r .kind) LIST e in
+          slots-hold l ∙ sym (rw (slots-counted l) (slots-along (r .kind) (fitting-kind n r h fe) l n))
+
+  pub row-held : allHeld (rowOf n (r .kind)) (r .kids) ≡ true
+  row-held = by (eqb (r .kind) LIST) refl
+    where
+      by : (b : Bool) → eqb (r .kind) LIST ≡ b → allHeld (rowOf n (r .kind)) (r .kids) ≡ true
+      by true e = list-held n h (r .kind) (eqb-true (r .kind) LIST e) (r .kids)
+      by false e =
+          let l = eqb-false (r .kind) LIST e in
+          rw (slots-counted l) (slots-held (r .kind) (fitting-kind n r h fe) l n)
 
 -- in a TOKEN's place stands a TOKEN, which has no children
 pub token-childless : (r : Record) → fits (classAt tokenAt) r ≡ true → holds (classAt tokenAt) r ≡ []
@@ -107,17 +83,6 @@ token-childless r fe =
     only : (b : Bool) → (b || false) ≡ true → b ≡ true
     only true h = refl
     only false h = h
-
--- the places of a RUN's TOKENs are all the same
-module _ (n s : ℕ) (c : Class) where
-  pub same-end : n ≤ s → length (replicate n c) ≤ s
-  same-end l = rw (length-replicate n c) l
-
-  pub same-in : s < n → s < length (replicate n c)
-  same-in l = rw (length-replicate n c) l
-
-  pub same-there : s < n → c ≡ getD (replicate n c) s (one [])
-  same-there l = sym (getD-replicate n s c (one []) l)
 
 -- ---- along a row of places: from index i with the places ps to index j with qs left
 pub record Along (t x : List ℕ) (i : ℕ) (ps : List Place) (j : ℕ) (qs : List Place) : Type 0 where
@@ -152,17 +117,35 @@ module _ (t x : List ℕ) (i : ℕ) (ps : List Place) (j : ℕ) where
 pub nothing-walked : (t x : List ℕ) (i : ℕ) → count t < refused → i ≤ count t → Walks t x i [] i
 nothing-walked t x i h l = along-end t x i [] i h (along-start t x i [] l)
 
--- ---- along the places cs: from child s on is left
-module _ (t x : List ℕ) (i d : ℕ) (cs : List Class) (j s : ℕ) (a : Along t x i (map (place d) cs) j (map (place d) (drop s cs))) where
-  pub row-end : count t < refused → length cs ≤ s → Walks t x i (map (place d) cs) j
-  row-end h l = along-end t x i (map (place d) cs) j h (rw (drop-of-length-le cs {i = s} l) at a)
+-- ---- along what may stand in the places: cs is left
+module _ (t x : List ℕ) (i : ℕ) (ps : List Place) (j d : ℕ) (cs : List Class) (a : Along t x i ps j (map (place d) cs)) where
+  pub row-end : count t < refused → cs ≡ [] → Walks t x i ps j
+  row-end h e = along-end t x i ps j h (rw e at a)
 
-  module _ (l : s < length cs) (c : Class) (ce : c ≡ getD cs s (one [])) (v : ℕ) (w : Walks t x j (place d c ∷ []) v) where
-    split : drop s cs ≡ c ∷ drop (s + 1) cs
-    split = rw (add-one, drop-cons cs s (one []) l, ce)
+  module _ (c : Class) (ds : List Class) (split : cs ≡ c ∷ ds) (v : ℕ) (w : Walks t x j (place d c ∷ []) v) where
+    pub row-next : v < refused → Along t x i ps v (map (place d) ds)
+    row-next h = along-next t x i ps j (place d c) (map (place d) ds) v (rw split at a) w h
 
-    pub row-next : v < refused → Along t x i (map (place d) cs) v (map (place d) (drop (s + 1) cs))
-    row-next h = along-next t x i (map (place d) cs) j (place d c) (map (place d) (drop (s + 1) cs)) v (rw split at a) w h
+    pub row-stops : refused ≤ v → Walks t x i ps v
+    row-stops h = along-stops t x i ps j (place d c) (map (place d) ds) v (rw split at a) w h
 
-    pub row-stops : refused ≤ v → Walks t x i (map (place d) cs) v
-    row-stops h = along-stops t x i (map (place d) cs) j (place d c) (map (place d) (drop (s + 1) cs)) v (rw split at a) w h
+-- the first of n that are left, and the others; and that none is left
+module _ (p n : ℕ) where
+  pub along-split : 0 < n → along p n ≡ classAt (p % 256) ∷ along (turn p) (n - 1)
+  along-split h = let z : n ≡ suc (n - 1) = omega arith in ap (along p) z
+
+  pub held-split : 0 < n → allHeld p n ≡ true → (p % 256 < classesHeld) × (allHeld (turn p) (n - 1) ≡ true)
+  held-split h l =
+      let z : n ≡ suc (n - 1) = omega arith in
+      let both = rw z at l in
+      (ltb-true (p % 256) classesHeld (and-left (ltb (p % 256) classesHeld) _ both), and-right (ltb (p % 256) classesHeld) _ both)
+
+  pub along-none : n ≤ 0 → along p n ≡ []
+  along-none h = let z : n ≡ 0 = omega arith in rw z
+
+module _ (c : Class) (n : ℕ) where
+  pub same-split : 0 < n → replicate n c ≡ c ∷ replicate (n - 1) c
+  same-split h = let z : n ≡ suc (n - 1) = omega arith in ap (λ (m : ℕ). replicate m c) z
+
+  pub same-none : n ≤ 0 → replicate n c ≡ []
+  same-none h = let z : n ≡ 0 = omega arith in rw z

@@ -2,7 +2,7 @@
 use Prim.Native.Nat.{ℕ, suc, _-_, _≤_, _<_}
 use native.Mathlib.Omega.{arith}
 use mathlib.Core.Path.{_≡_, refl, _∙_, ap, sym}
-use mathlib.Core.List.{List, [], _∷_, map}
+use mathlib.Core.List.{List, [], _∷_}
 use mathlib.Core.Bool.{Bool, true, false}
 use lib.Dec.{ltb}
 use lib.ListN.{length}
@@ -14,24 +14,12 @@ use Rattle.utf8.specs.Decided.{decided}
 use Rattle.utf8.specs.declared.Encoding.{Encoding}
 use Rattle.record.specs.Record.{count}
 use Rattle.grammar.specs.Grammar.{root}
-use Rattle.grammar.specs.Kind.{LIST}
-use Rattle.grammar.specs.Classes.{classesHeld, classAt, rootAt, root-is}
-use Rattle.grammar.specs.Packed.{kindsHeld}
+use Rattle.grammar.specs.Classes.{classAt, rootAt, root-is}
 use Rattle.tree.specs.Check.{place, scan, malformed, longest, answerTo, Checks}
 use Rattle.tree.specs.declared.Answer.{Answer}
 use Rattle.tree.specs.declared.Answer.the-variants.{Admitted, Malformed, TooLong, Broken}
 use Rattle.tree.specs.Bounds.{tree-short}
-use Rattle.tree.specs.Steps.{children}
 use Rattle.tree.specs.Walk.{refused, refuse, answerOf, Walks, resumed, resumed-next, resumed-refused, refused-answer}
-
--- the root is the one child of a LIST
-pub root-row : (t : List ℕ) → count t < refused → (count t < refused) × ((0 ≤ count t) × ((rootAt < classesHeld) × ((64 ≤ 64) × ((LIST < kindsHeld) × (1 ≡ length (children rootAt LIST 1))))))
-unfolding children
-root-row t h = (h, (omega arith, (omega arith, (omega arith, (omega arith, refl)))))
-
-pub root-walk : (t x : List ℕ) (w : ℕ) → Walks t x 0 (map (place 1) (children rootAt LIST 1)) w → Walks t x 0 (place 1 (classAt rootAt) ∷ []) w
-unfolding children
-root-walk t x w h = h
 
 -- where records are left over, the index of the first stands for the answer
 left-over : (t x : List ℕ) (w : ℕ) → w < refused → w ≤ count t → (w ≡ count t → ⊥) → scan t x (count t - w) w [] ≡ answerOf w

@@ -6,16 +6,15 @@ ghost use mathlib.Core.Path.{_≡_};
 ghost use mathlib.Core.Bool.{true};
 ghost use mathlib.Core.List.{[], _∷_, map};
 ghost use Prim.Native.Nat.{_+_, _-_, _%_, _≤_, _<_};
-ghost use lib.ListN.{length, replicate};
+ghost use lib.ListN.{replicate};
 ghost use Rattle.spelling.specs.Spelling.{known};
 ghost use Rattle.record.specs.Record.{count as count'};
 ghost use Rattle.grammar.specs.Grammar.{root};
 ghost use Rattle.grammar.specs.Classes.{classesHeld, classAt, tokenAt};
-ghost use Rattle.grammar.specs.Packed.{kindsHeld, ruleOf};
+ghost use Rattle.grammar.specs.Packed.{kindsHeld, ruleOf, along, allHeld};
 ghost use Rattle.tree.specs.Check.{place as at, holds, flagsFit, hasPart, fieldsFit, rangeFits, fits as fits', inside as inside', scan, malformed as malformed', Checks, numberOf, placeOf};
 ghost use Rattle.tree.specs.Walk.{refused, refuse, answerOf, Walks, faultOf};
 ghost use Rattle.tree.specs.Laws.{Counts};
-ghost use Rattle.tree.specs.Steps.{children, childAt, Slotted};
 use grammar::ROOT;
 use grammar::SLOTS;
 use grammar::SMALL;
@@ -256,8 +255,8 @@ fn check_tokens(tree: &[u8], text: &[u8], index: u64, left: usize, n: u16) -> u6
     ensures { λ w. ⌜ Walks (now (tree .entry)) (now (text .entry)) index (map (at (65 - left)) (replicate n (classAt tokenAt))) w ⌝ }
 {
     let mut next = index;
-    let mut s: u16 = 0;
-    while s < n {
+    let mut rest = n;
+    while 0 < rest {
         if record::count(tree) as u64 <= next {
             return refusal(ENDS, next);
         }
@@ -268,7 +267,7 @@ fn check_tokens(tree: &[u8], text: &[u8], index: u64, left: usize, n: u16) -> u6
             return refusal(fault, next);
         }
         next += 1;
-        s += 1;
+        rest -= 1;
     }
     next
 }
@@ -287,6 +286,9 @@ fn check_at(tree: &[u8], text: &[u8], index: u64, place: u8, left: usize) -> u64
     if fault != 0 {
         return refusal(fault, index);
     }
+    if r.kids == 0 {
+        return index + 1;
+    }
     check_below(tree, text, index + 1, place, left - 1, r)
 }
 
@@ -295,50 +297,30 @@ fn check_below(tree: &[u8], text: &[u8], index: u64, place: u8, left: usize, r: 
     requires { ⌜ (count' (now tree) < refused) × ((index ≤ count' (now tree)) × ((place < classesHeld) × ((left < 64) × (fits' (classAt place) r ≡ true)))) ⌝ }
     ensures { λ w. ⌜ Walks (now (tree .entry)) (now (text .entry)) index (map (at (65 - left)) (holds (classAt place) r)) w ⌝ }
 {
-    if r.kids == 0 {
-        return index;
-    }
     if r.kind == RUN {
         return check_tokens(tree, text, index, left, r.kids);
     }
-    let element = grammar::element(place);
-    check_row(tree, text, index, element, left, r.kind, r.kids)
+    let row = grammar::row(place, r.kind);
+    check_row(tree, text, index, row, left, r.kids)
 }
 
-// The place of a child of a kind: a LIST's elements all stand in the same one, and any other kind has slots.
-fn child(element: u8, kind: u16, s: u16) -> u8
-    requires { ⌜ (element < classesHeld) × ((kind < kindsHeld) × Slotted kind s) ⌝ }
-    ensures { λ p. ⌜ (p < classesHeld) × (classAt p ≡ childAt element kind s) ⌝ }
-{
-    if kind == LIST {
-        return element;
-    }
-    grammar::slot(kind, s)
-}
-
-// The n children of a kind, one behind the other, where a LIST's elements stand in the place element.
-fn check_row(
-    tree: &[u8],
-    text: &[u8],
-    index: u64,
-    element: u8,
-    left: usize,
-    kind: u16,
-    n: u16,
-) -> u64
-    requires { ⌜ (count' (now tree) < refused) × ((index ≤ count' (now tree)) × ((element < classesHeld) × ((left ≤ 64) × ((kind < kindsHeld) × (n ≡ length (children element kind n)))))) ⌝ }
-    ensures { λ w. ⌜ Walks (now (tree .entry)) (now (text .entry)) index (map (at (65 - left)) (children element kind n)) w ⌝ }
+// The first n children of a row of places, one behind the other.
+fn check_row(tree: &[u8], text: &[u8], index: u64, row: u64, left: usize, n: u16) -> u64
+    requires { ⌜ (count' (now tree) < refused) × ((index ≤ count' (now tree)) × ((left ≤ 64) × (allHeld row n ≡ true))) ⌝ }
+    ensures { λ w. ⌜ Walks (now (tree .entry)) (now (text .entry)) index (map (at (65 - left)) (along row n)) w ⌝ }
 {
     let mut next = index;
-    let mut s: u16 = 0;
-    while s < n {
-        let place = child(element, kind, s);
+    let mut places = row;
+    let mut rest = n;
+    while 0 < rest {
+        let place = grammar::first(places);
         let one = check_at(tree, text, next, place, left);
         if REFUSED <= one {
             return one;
         }
         next = one;
-        s += 1;
+        places = grammar::turned(places);
+        rest -= 1;
     }
     next
 }
@@ -372,12 +354,12 @@ fn answer_of(w: u64) -> Answer
     Answer::Ends(index)
 }
 
-// The records of a tree, from the root on: the root is the one element of a row.
+// The records of a tree, from the root on: the root is alone in its row.
 fn check_records(tree: &[u8], text: &[u8]) -> Answer
     requires { ⌜ count' (now tree) < refused ⌝ }
     ensures { λ r. ⌜ r ≡ scan (now (tree .entry)) (now (text .entry)) (count' (now (tree .entry))) 0 (at 1 root ∷ []) ⌝ }
 {
-    let w = check_row(tree, text, 0, ROOT, DEEPEST, LIST, 1);
+    let w = check_row(tree, text, 0, ROOT as u64, DEEPEST, 1);
     if w == record::count(tree) as u64 {
         return Answer::Admitted;
     }

@@ -16,7 +16,9 @@ returns-4 : tie.Need-returns-4
 returns-4 c = is-deep _ (c .if4 .taken)
 
 returns-5 : tie.Need-returns-5
-returns-5 c = is-ends _ (c .before .before .before .if1 .left) (c .before .before .if2 .left) (c .before .if3 .left) (c .if4 .left)
+returns-5 c =
+    let at-if1 = c .before .before .before .if1 in
+    is-ends _ (at-if1 .left) (c .before .before .if2 .left) (c .before .if3 .left) (c .if4 .left)
 
 pub answer-of-spec : {M : Type 1} → statement M
 answer-of-spec = tie.close (tie.spec returns returns-2 returns-3 returns-4 returns-5)

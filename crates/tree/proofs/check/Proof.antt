@@ -19,7 +19,10 @@ returns-3 c =
     ill _ _ _ (at-malformed .ensures) (at-if1 .left) (at-if2 .left) (at-check .result) _ (at-check .ensures) (c .before .number .ensures) (c .if3 .taken)
 
 check-records-requires : tie.Need-check-records-requires
-check-records-requires c κs = short-count _ _ (c .before .before .before .before .before .malformed .ensures) (c .before .before .before .before .if1 .left)
+check-records-requires c κs =
+    let at-malformed = c .before .before .before .before .before .malformed in
+    let at-if1 = c .before .before .before .before .if1 in
+    short-count _ _ (at-malformed .ensures) (at-if1 .left)
 
 returns-4 : tie.Need-returns-4
 returns-4 c =
@@ -30,4 +33,7 @@ returns-4 c =
     looked-at _ _ _ (at-malformed .ensures) (at-if1 .left) (at-if2 .left) (at-check .result) _ (at-check .ensures) (c .before .before .number .ensures) _ (c .before .if3 .left) (c .check-records .ensures)
 
 pub check-spec : {M : Type 1} → statement M
-check-spec = tie.close (tie.spec (λ c κs. search needs) returns returns-2 (λ c κs. search needs) (λ c κs. search needs) returns-3 check-records-requires returns-4)
+check-spec =
+    tie.close
+    (tie.spec
+    (λ c κs. search needs) returns returns-2 (λ c κs. search needs) (λ c κs. search needs) returns-3 check-records-requires returns-4)

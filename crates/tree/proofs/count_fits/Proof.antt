@@ -4,10 +4,15 @@ use Rattle.tree.proofs.count_fits.Statement.{statement}
 use Rattle.tree.proofs.count_fits.Tie as tie
 
 returns : tie.Need-returns
-returns c = λ k. any-count k (c .before .before .before .args .r) (c .if1 .taken)
+returns c =
+    let at-args = c .before .before .before .args in
+    λ k. any-count k (at-args .r) (c .if1 .taken)
 
 returns-2 : tie.Need-returns-2
-returns-2 c = slot-count _ (c .before .before .before .before .args .r) (c .before .before .before .before .pre .0) (c .before .before .before .before .pre .1) (c .before .if1 .left)
+returns-2 c =
+    let at-args = c .before .before .before .before .args in
+    let at-pre = c .before .before .before .before .pre in
+    slot-count _ (at-args .r) (at-pre .0) (at-pre .1) (c .before .if1 .left)
 
 pub count-fits-spec : {M : Type 1} → statement M
 count-fits-spec = tie.close (tie.spec returns returns-2)

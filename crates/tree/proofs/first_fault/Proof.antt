@@ -5,10 +5,14 @@ use Rattle.tree.proofs.first_fault.Statement.{statement}
 use Rattle.tree.proofs.first_fault.Tie as tie
 
 returns : tie.Need-returns
-returns c = bad-mark (c .before .before .before .args .text .now) (c .before .before .before .args .r) _ _ (c .if1 .taken)
+returns c =
+    let at-args = c .before .before .before .args in
+    bad-mark (at-args .text .now) (at-args .r) _ _ (c .if1 .taken)
 
 returns-2 : tie.Need-returns-2
-returns-2 c = misfit (c .before .before .before .before .args .text .now) (c .before .before .before .before .args .r) _ _ (c .before .if1 .left) (c .if2 .taken)
+returns-2 c =
+    let at-args = c .before .before .before .before .args in
+    misfit (at-args .text .now) (at-args .r) _ _ (c .before .if1 .left) (c .if2 .taken)
 
 returns-3 : tie.Need-returns-3
 returns-3 c =

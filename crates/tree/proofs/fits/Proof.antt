@@ -9,58 +9,56 @@ returns c = not-allowed _ (c .before .before .args .r) _ (c .before .allowed .en
 
 count-fits-requires : tie.Need-count-fits-requires
 count-fits-requires c κs =
-    let at-allowed = c .before .before in
-    let start = at-allowed .before in
-    (c .rule .ensures, kind-held _ (start .args .r) _ (start .pre) (at-allowed .allowed .ensures) (c .before .if1 .left))
+    let at-args = c .before .before .before .args in
+    let at-pre = c .before .before .before .pre in
+    (c .rule .ensures, kind-held _ (at-args .r) _ at-pre (c .before .before .allowed .ensures) (c .before .if1 .left))
 
 returns-2 : tie.Need-returns-2
 returns-2 c =
-    let at-count = c .before in
-    let at-if1 = at-count .before .before in
-    let start = at-if1 .before .before in
-    miscounted _ (start .args .r) _ (at-if1 .before .allowed .ensures) (at-if1 .if1 .left) _ (at-count .count-fits .ensures _) (c .if2 .taken)
+    let at-args = c .before .before .before .before .before .args in
+    let at-allowed = c .before .before .before .before .allowed in
+    let at-if1 = c .before .before .before .if1 in
+    miscounted _ (at-args .r) _ (at-allowed .ensures) (at-if1 .left) _ (c .before .count-fits .ensures _) (c .if2 .taken)
 
 flags-fit-requires : tie.Need-flags-fit-requires
 flags-fit-requires c κs =
-    let at-rule = c .before .before in
-    let at-if1 = at-rule .before in
-    let start = at-if1 .before .before in
-    (at-rule .rule .ensures, kind-held _ (start .args .r) _ (start .pre) (at-if1 .before .allowed .ensures) (at-if1 .if1 .left))
+    let at-args = c .before .before .before .before .before .args in
+    let at-pre = c .before .before .before .before .before .pre in
+    let at-allowed = c .before .before .before .before .allowed in
+    let at-if1 = c .before .before .before .if1 in
+    (c .before .before .rule .ensures, kind-held _ (at-args .r) _ at-pre (at-allowed .ensures) (at-if1 .left))
 
 returns-3 : tie.Need-returns-3
 returns-3 c =
-    let at-if2 = c .before .before in
-    let at-count = at-if2 .before in
-    let at-if1 = at-count .before .before in
-    let start = at-if1 .before .before in
-    flags-off _ (start .args .r) _ (at-if1 .before .allowed .ensures) (at-if1 .if1 .left) _ (at-count .count-fits .ensures _)
-    (at-if2 .if2 .left) _ (c .before .flags-fit .ensures) (c .if3 .taken)
+    let at-args = c .before .before .before .before .before .before .before .args in
+    let at-allowed = c .before .before .before .before .before .before .allowed in
+    let at-if1 = c .before .before .before .before .before .if1 in
+    let at-count-fits = c .before .before .before .count-fits in
+    flags-off _ (at-args .r) _ (at-allowed .ensures) (at-if1 .left) _ (at-count-fits .ensures _) (c .before .before .if2 .left) _ (c .before .flags-fit .ensures) (c .if3 .taken)
 
 returns-4 : tie.Need-returns-4
 returns-4 c =
-    let at-if3 = c .before .before in
-    let at-if2 = at-if3 .before .before in
-    let at-count = at-if2 .before in
-    let at-if1 = at-count .before .before in
-    let start = at-if1 .before .before in
-    fields-off _ (start .args .r) _ (at-if1 .before .allowed .ensures) (at-if1 .if1 .left) _ (at-count .count-fits .ensures _)
-    (at-if2 .if2 .left) _ (at-if3 .before .flags-fit .ensures) (at-if3 .if3 .left) _ (c .before .fields-fit .ensures) (c .if4 .taken)
+    let at-args = c .before .before .before .before .before .before .before .before .before .args in
+    let at-allowed = c .before .before .before .before .before .before .before .before .allowed in
+    let at-if1 = c .before .before .before .before .before .before .before .if1 in
+    let at-count-fits = c .before .before .before .before .before .count-fits in
+    let at-if2 = c .before .before .before .before .if2 in
+    let at-flags-fit = c .before .before .before .flags-fit in
+    fields-off _ (at-args .r) _ (at-allowed .ensures) (at-if1 .left) _ (at-count-fits .ensures _) (at-if2 .left) _ (at-flags-fit .ensures) (c .before .before .if3 .left) _ (c .before .fields-fit .ensures) (c .if4 .taken)
 
 returns-5 : tie.Need-returns-5
 returns-5 c =
-    let at-if4 = c .before in
-    let at-if3 = at-if4 .before .before in
-    let at-if2 = at-if3 .before .before in
-    let at-count = at-if2 .before in
-    let at-if1 = at-count .before .before in
-    let start = at-if1 .before .before in
-    all-fit _ (start .args .r) _ (at-if1 .before .allowed .ensures) (at-if1 .if1 .left) _ (at-count .count-fits .ensures _)
-    (at-if2 .if2 .left) _ (at-if3 .before .flags-fit .ensures) (at-if3 .if3 .left) _ (at-if4 .before .fields-fit .ensures)
-    (at-if4 .if4 .left) _ (c .range-fits .ensures)
+    let at-args = c .before .before .before .before .before .before .before .before .before .before .args in
+    let at-allowed = c .before .before .before .before .before .before .before .before .before .allowed in
+    let at-if1 = c .before .before .before .before .before .before .before .before .if1 in
+    let at-count-fits = c .before .before .before .before .before .before .count-fits in
+    let at-if2 = c .before .before .before .before .before .if2 in
+    let at-flags-fit = c .before .before .before .before .flags-fit in
+    let at-if3 = c .before .before .before .if3 in
+    all-fit _ (at-args .r) _ (at-allowed .ensures) (at-if1 .left) _ (at-count-fits .ensures _) (at-if2 .left) _ (at-flags-fit .ensures) (at-if3 .left) _ (c .before .before .fields-fit .ensures) (c .before .if4 .left) _ (c .range-fits .ensures)
 
 pub fits-spec : {M : Type 1} → statement M
 fits-spec =
     tie.close
     (tie.spec
-    (λ c κs. search needs) returns (λ c κs. search needs) count-fits-requires returns-2 flags-fit-requires returns-3
-    (λ c κs. search needs) returns-4 (λ c κs. search needs) returns-5)
+    (λ c κs. search needs) returns (λ c κs. search needs) count-fits-requires returns-2 flags-fit-requires returns-3 (λ c κs. search needs) returns-4 (λ c κs. search needs) returns-5)

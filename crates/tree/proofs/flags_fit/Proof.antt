@@ -5,10 +5,15 @@ use Rattle.tree.proofs.flags_fit.Statement.{statement}
 use Rattle.tree.proofs.flags_fit.Tie as tie
 
 returns : tie.Need-returns
-returns c = flags-token (c .before .before .before .args .r) _ (c .before .if1 .taken) (c .number-known .ensures)
+returns c =
+    let at-args = c .before .before .before .args in
+    flags-token (at-args .r) _ (c .before .if1 .taken) (c .number-known .ensures)
 
 returns-2 : tie.Need-returns-2
-returns-2 c = flags-rule _ (c .before .before .before .args .r) (c .before .before .before .pre .0) (c .before .before .before .pre .1) (c .before .if1 .left)
+returns-2 c =
+    let at-args = c .before .before .before .args in
+    let at-pre = c .before .before .before .pre in
+    flags-rule _ (at-args .r) (at-pre .0) (at-pre .1) (c .before .if1 .left)
 
 pub flags-fit-spec : {M : Type 1} → statement M
 flags-fit-spec = tie.close (tie.spec (λ c κs. search needs) returns returns-2)

@@ -4,10 +4,14 @@ use Rattle.tree.proofs.has_part.Statement.{statement}
 use Rattle.tree.proofs.has_part.Tie as tie
 
 returns : tie.Need-returns
-returns c = token-part (c .before .before .before .args .r) (c .before .if1 .taken)
+returns c =
+    let at-args = c .before .before .before .args in
+    token-part (at-args .r) (c .before .if1 .taken)
 
 returns-2 : tie.Need-returns-2
-returns-2 c = other-part (c .before .before .before .args .r) (c .before .if1 .left)
+returns-2 c =
+    let at-args = c .before .before .before .args in
+    other-part (at-args .r) (c .before .if1 .left)
 
 pub has-part-spec : {M : Type 1} → statement M
 has-part-spec = tie.close (tie.spec returns returns-2)

@@ -6,26 +6,25 @@ use Rattle.tree.proofs.inside.Tie as tie
 
 returns : tie.Need-returns
 returns c =
-    let start = c .before .before .before in
-    no-part (start .args .r) _ (c .before .has-part .ensures) (start .args .text .now) (c .if1 .taken)
+    let at-args = c .before .before .before .args in
+    no-part (at-args .r) _ (c .before .has-part .ensures) (at-args .text .now) (c .if1 .taken)
 
 returns-2 : tie.Need-returns-2
 returns-2 c =
-    let at-if1 = c .before .before .before in
-    let start = at-if1 .before .before .before in
-    past-text (start .args .r) _ (at-if1 .before .has-part .ensures) (start .args .text .now) (at-if1 .if1 .left) (c .if2 .taken)
+    let at-args = c .before .before .before .before .before .before .args in
+    let at-has-part = c .before .before .before .before .has-part in
+    let at-if1 = c .before .before .before .if1 in
+    past-text (at-args .r) _ (at-has-part .ensures) (at-args .text .now) (at-if1 .left) (c .if2 .taken)
 
 returns-3 : tie.Need-returns-3
 returns-3 c =
-    let at-if2 = c .before .before in
-    let at-if1 = at-if2 .before .before .before in
-    let start = at-if1 .before .before .before in
-    a-part (start .args .r) _ (at-if1 .before .has-part .ensures) (start .args .text .now) (at-if1 .if1 .left) _ _ (at-if2 .if2 .left)
-    (c .before .boundary .ensures) (c .boundary2 .ensures)
+    let at-args = c .before .before .before .before .before .before .before .before .args in
+    let at-has-part = c .before .before .before .before .before .before .has-part in
+    let at-if1 = c .before .before .before .before .before .if1 in
+    a-part (at-args .r) _ (at-has-part .ensures) (at-args .text .now) (at-if1 .left) _ _ (c .before .before .if2 .left) (c .before .boundary .ensures) (c .boundary2 .ensures)
 
 pub inside-spec : {M : Type 1} → statement M
 inside-spec =
     tie.close
     (tie.spec
-    (λ c κs. search needs) returns (λ c. search needs) (λ c. search needs) (λ c. search needs) returns-2
-    (λ c κs. search needs) (λ c κs. search needs) returns-3)
+    (λ c κs. search needs) returns (λ c. search needs) (λ c. search needs) (λ c. search needs) returns-2 (λ c κs. search needs) (λ c κs. search needs) returns-3)
