@@ -67,12 +67,31 @@ pub not-false : (b : Bool) → not b ≡ false → b ≡ true
 not-false true e = refl
 not-false false e = absurd (false≢true (sym e))
 
--- a block behind i
-pub left-block : (s : List ℕ) (i : ℕ) → 16 ≤ length s - i → 16 ≤ length (take (length s - i) (drop i s))
-left-block s i h = rw (rest s i, length-drop i s) h
+-- w bytes behind i
+pub left-of : (s : List ℕ) (i w : ℕ) → w ≤ length s - i → w ≤ length (take (length s - i) (drop i s))
+left-of s i w h = rw (rest s i, length-drop i s) h
 
-pub next-block : (s : List ℕ) (i : ℕ) → Plain i s → Plain 16 (take (length s - i) (drop i s)) → Plain (i + 16) s
-next-block s i p q = overlap s i i 16 (i + 16) (omega arith) refl p (rw (rest s i) at q)
+pub next : (s : List ℕ) (i w : ℕ) → Plain i s → Plain w (take (length s - i) (drop i s)) → Plain (i + w) s
+next s i w p q = overlap s i i w (i + w) (omega arith) refl p (rw (rest s i) at q)
+
+-- n of them are within the bytes
+pub within : (s : List ℕ) (i n : ℕ) → i ≤ length s → n ≤ length (take (length s - i) (drop i s)) → i + n ≤ length s
+within s i n l h =
+    let m : n ≤ length s - i = rw (rest s i, length-drop i s) at h in
+    omega arith
+
+-- four blocks are a page
+pub page : (s : List ℕ) (a b c d : Bool)
+    → (a ≡ true → Plain 16 s)
+    → (b ≡ true → Plain 16 (take (length s - 16) (drop 16 s)))
+    → (c ≡ true → Plain 16 (take (length s - 32) (drop 32 s)))
+    → (d ≡ true → Plain 16 (take (length s - 48) (drop 48 s)))
+    → ((a && b) && c) && d ≡ true → Plain 64 s
+page s a b c d p q r t e =
+    let abc = and-left ((a && b) && c) d e in
+    let ab = and-left (a && b) c abc in
+    next s 48 16 (next s 32 16 (next s 16 16 (p (and-left a b ab)) (q (and-right a b ab))) (r (and-right (a && b) c abc)))
+    (t (and-right ((a && b) && c) d e))
 
 pub last-block : (s : List ℕ) (i k : ℕ) → k ≤ i → length s ≡ k + 16 → Plain i s → Plain 16 (take (length s - k) (drop k s)) → Plain (length s) s
 last-block s i k l e p q = overlap s i k 16 (length s) l e p (rw (rest s k) at q)

@@ -37,12 +37,14 @@ const LAST_AFTER_F4: u8 = 0x8F;
 // 01's number of the refusal: not UTF-8.
 const NOT_UTF8: u64 = 2;
 
-// Bytes are tested four, eight or sixteen at once.
+// Bytes are tested four, eight, sixteen or, in a long text, sixty-four at once.
 const FOUR: usize = 4;
 
 const EIGHT: usize = 8;
 
 const BLOCK: usize = 16;
+
+const PAGE: usize = 64;
 
 // What the check answers.
 pub enum Encoding {
@@ -204,6 +206,31 @@ fn plain_block(s: &[u8]) -> bool
     plain_eight(s) & plain_eight(&s[EIGHT..])
 }
 
+// Whether the first sixty-four bytes are.
+fn plain_page(s: &[u8]) -> bool
+    requires { ⌜ 64 ≤ length (now s) ⌝ }
+    ensures { λ r. ⌜ (r ≡ true → Plain 64 (now (s .entry))) ⌝ }
+{
+    plain_block(s)
+        & plain_block(&s[BLOCK..])
+        & plain_block(&s[2 * BLOCK..])
+        & plain_block(&s[3 * BLOCK..])
+}
+
+// Where the pages of sixty-four plain bytes that begin the bytes end.
+fn pages(s: &[u8]) -> usize
+    ensures { λ r. ⌜ (r ≤ length (now (s .entry))) × Plain r (now (s .entry)) ⌝ }
+{
+    let mut i = 0;
+    while PAGE <= s.len() - i {
+        if !plain_page(&s[i..]) {
+            return i;
+        }
+        i += PAGE;
+    }
+    i
+}
+
 // Where the blocks of sixteen plain bytes that begin the bytes end.
 fn blocks(s: &[u8]) -> usize
     ensures { λ r. ⌜ (r ≤ length (now (s .entry))) × Plain r (now (s .entry)) ⌝ }
@@ -239,6 +266,14 @@ fn few(s: &[u8]) -> usize
     0
 }
 
+// Where the pages of plain bytes that begin the bytes and the blocks behind them end.
+fn pages_and_blocks(s: &[u8]) -> usize
+    ensures { λ r. ⌜ (r ≤ length (now (s .entry))) × Plain r (now (s .entry)) ⌝ }
+{
+    let i = pages(s);
+    i + blocks(&s[i..])
+}
+
 // How many of the first bytes are surely plain. The last block, which need not be whole, is tested with bytes before it.
 fn plain_start(s: &[u8]) -> usize
     ensures { λ r. ⌜ (r ≤ length (now (s .entry))) × Plain r (now (s .entry)) ⌝ }
@@ -247,7 +282,7 @@ fn plain_start(s: &[u8]) -> usize
     if n < BLOCK {
         return few(s);
     }
-    let i = blocks(s);
+    let i = pages_and_blocks(s);
     if n - i < BLOCK {
         if plain_block(&s[n - BLOCK..]) {
             return n;

@@ -5,7 +5,7 @@ use denote.Ref.{now}
 use native.Mathlib.Omega.{arith}
 use lib.ListN.{length}
 use borrow.Author.Needs.{needs}
-use Rattle.utf8.specs.Plain.{Plain, plain-none, not-false, left-block, next-block}
+use Rattle.utf8.specs.Plain.{Plain, plain-none, not-false, left-of, next}
 use Rattle.utf8.proofs.blocks.Statement.{statement}
 use Rattle.utf8.proofs.blocks.Tie as tie
 
@@ -31,7 +31,7 @@ part-plain-block-end : tie.Need-part-plain-block-end Inv-loop μ-loop
 part-plain-block-end c = search needs
 
 plain-block-requires : tie.Need-plain-block-requires Inv-loop μ-loop
-plain-block-requires c κs = left-block (now (c .before .before .before .before .args .s)) (c .before .before .loop .i) (c .before .loop-test .taken)
+plain-block-requires c κs = left-of (now (c .before .before .before .before .args .s)) (c .before .before .loop .i) 16 (c .before .loop-test .taken)
 
 returns : tie.Need-returns Inv-loop μ-loop
 returns c = search needs
@@ -39,7 +39,7 @@ returns c = search needs
 loop-again : tie.Need-loop-again Inv-loop μ-loop
 loop-again c =
     let loop = c .before .before .before .before .loop in
-    (omega arith, next-block (now (c .before .before .before .before .before .before .args .s)) (loop .i) (loop .inv .1) (c .before .plain-block .ensures (not-false _ (c .if1 .left))))
+    (omega arith, next (now (c .before .before .before .before .before .before .args .s)) (loop .i) 16 (loop .inv .1) (c .before .plain-block .ensures (not-false _ (c .if1 .left))))
 
 add-i : tie.Need-add-i Inv-loop μ-loop
 add-i c = omega (arith, loop-again c)

@@ -15,8 +15,8 @@ few-requires c κs = search needs
 returns : tie.Need-returns
 returns c = search needs
 
-blocks-requires : tie.Need-blocks-requires
-blocks-requires c κs = search needs
+pages-and-blocks-requires : tie.Need-pages-and-blocks-requires
+pages-and-blocks-requires c κs = search needs
 
 sub-if2 : tie.Need-sub-if2
 sub-if2 c = search needs
@@ -36,7 +36,7 @@ plain-block-requires c κs = search needs
 returns-2 : tie.Need-returns-2
 returns-2 c =
     let s = now (c .before .before .before .before .before .before .before .args .s) in
-    let found = c .before .before .before .before .blocks2 in
+    let found = c .before .before .before .before .pages-and-blocks in
     (omega arith, last-block s (found .result) (length s - 16) (omega arith) (omega arith) (found .ensures .1) (c .before .plain-block .ensures (c .if3 .taken)))
 
 returns-3 : tie.Need-returns-3
@@ -51,7 +51,7 @@ plain-start-spec =
     (tie.spec
     few-requires
     returns
-    blocks-requires
+    pages-and-blocks-requires
     sub-if2
     sub-plain-block
     part-plain-block-start
