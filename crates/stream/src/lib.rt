@@ -262,12 +262,14 @@ fn valued(s: Sink, out: &mut [u8], has: bool, value: &[u8]) -> Sink
 pub fn append(s: Sink, out: &mut [u8], kind: u16, word: &[u8], has: bool, value: &[u8]) -> Sink
     ensures { λ r. ⌜ (r, now (out .exit)) ≡ step (s, now (out .entry)) kind (now (word .entry)) (given has (now (value .entry))) ⌝ }
 {
+    let w = &word[0..];
+    let v = &value[0..];
     let t = gap(s, out, kind);
     if kind == TK_BLOB {
-        blob(t, out, has, value)
+        blob(t, out, has, v)
     } else {
-        let u = spell(t, out, kind, word);
-        valued(u, out, has, value)
+        let u = spell(t, out, kind, w);
+        valued(u, out, has, v)
     }
 }
 
