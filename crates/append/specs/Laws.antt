@@ -12,6 +12,7 @@ use native.Mathlib.Nat.{zero-add, suc-ne-zero}
 use borrow.Author.Tests.{lt-ltb, le-ltb, ltb-false, eq-eqb, ne-eqb}
 use Rattle.utf8.specs.Rfc3629 as utf8
 use Rattle.utf8.specs.Rfc3629.{Text, none, Encoded}
+use Rattle.utf8.specs.Laws as utf8laws
 use Rattle.utf8.specs.Laws.{encoded-unique, place-within}
 use Rattle.utf8.specs.Decided.{decided}
 use Rattle.utf8.specs.declared.Encoding.{Encoding}
@@ -30,7 +31,7 @@ use Rattle.append.specs.declared.Answer.{Answer}
 use Rattle.append.specs.declared.Answer.the-variants.{Added, Malformed, Unknown, TooLong, Broken, NoRoom}
 use Rattle.append.specs.declared.Check.{Check}
 use Rattle.append.specs.declared.Check.the-variants.{Fine, Refused}
-use Rattle.append.specs.Append.{Appends, numberOf, present, tokenOf, news, longest, broken, before, room, answerTo, recordAfter, outputAfter, place}
+use Rattle.append.specs.Append.{Appends, numberOf, present, tokenOf, news, longest, broken, before, room, answerTo, recordAfter, outputAfter, number, place}
 use Rattle.append.specs.Steps.{Checks, Writes, emitted, counted}
 
 -- no bytes are a text
@@ -206,6 +207,15 @@ unique rec out token value a b r s o p x y =
         x .writes ∙ ap (λ (t : Answer). outputAfter t rec out token value) q ∙ sym (y .writes),
       ),
     )
+
+-- a number of 01's table is small
+pub number-small : (a : Answer) → number a < 16
+number-small (Added n) = omega arith
+number-small Malformed = omega arith
+number-small Unknown = omega arith
+number-small TooLong = omega arith
+number-small (Broken e) = utf8laws.number-small e
+number-small (NoRoom n) = omega arith
 
 -- a place is far below 2^32, so that number and place can be told apart in one number
 abbrev Small : Answer → Type 0

@@ -5,7 +5,7 @@ ghost use mathlib.Core.Path.{_≡_};
 ghost use Prim.Native.Nat.{_-_, _≤_};
 ghost use lib.ListN.{length};
 ghost use Rattle.spelling.specs.Spelling.{spelling};
-ghost use Rattle.append.specs.Append.{Appends, news, numberOf, present as present'};
+ghost use Rattle.append.specs.Append.{Appends, news, numberOf, number as number', place as place', present as present'};
 ghost use Rattle.append.specs.Steps.{Checks, Writes, emitted, counted};
 use spelling::token::TK_ID;
 use spelling::words;
@@ -20,6 +20,15 @@ const LONGEST: usize = 65536;
 
 // No token adds more beside its value: a space and the longest spelling.
 const LONGEST_TOKEN: usize = 14;
+
+// 01's numbers of the refusals.
+const MALFORMED: u64 = 1;
+
+const TOO_LONG: u64 = 2;
+
+const UNKNOWN: u64 = 4;
+
+const NO_ROOM: u64 = 8;
 
 // The stream record: the bit, and the bytes written so far.
 pub struct Stream {
@@ -51,6 +60,34 @@ pub enum Check {
 pub struct Next {
     pub answer: Answer,
     pub rec: Stream,
+}
+
+// An answer's number in 01's table.
+pub fn number(a: Answer) -> u64
+    ensures { λ r. ⌜ r ≡ number' a ⌝ }
+{
+    match a {
+        Answer::Added(_) => 0,
+        Answer::Malformed => MALFORMED,
+        Answer::Unknown => UNKNOWN,
+        Answer::TooLong => TOO_LONG,
+        Answer::Broken(e) => utf8::number(e),
+        Answer::NoRoom(_) => NO_ROOM,
+    }
+}
+
+// An answer's place in 01's table.
+pub fn place(a: Answer) -> u64
+    ensures { λ r. ⌜ r ≡ place' a ⌝ }
+{
+    match a {
+        Answer::Added(n) => n as u64,
+        Answer::Malformed => 0,
+        Answer::Unknown => 0,
+        Answer::TooLong => LONGEST as u64,
+        Answer::Broken(e) => utf8::place(e) as u64,
+        Answer::NoRoom(n) => n as u64,
+    }
 }
 
 // The token number of a token word.

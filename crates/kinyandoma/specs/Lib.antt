@@ -1,3 +1,1 @@
-pub mod Wire
-pub mod Laws
 pub mod Trees

@@ -3,15 +3,15 @@ ghost use mathlib.Core.Path.{_≡_};
 ghost use Prim.Native.Nat.{_<_, _^_};
 ghost use Rattle.render.specs.Render.{placeOf};
 ghost use Rattle.kinyandoma.specs.Trees.{code as code', Measures, Renders};
-use super::joined;
 use render::Outcome;
+use wire::PLACES;
 
 // An outcome as one number.
 fn code(o: Outcome) -> u64
     requires { ⌜ placeOf o < 2 ^ 32 ⌝ }
     ensures { λ r. ⌜ r ≡ code' o ⌝ }
 {
-    joined(render::number(o), render::place(o) as u64)
+    render::number(o) * PLACES + render::place(o) as u64
 }
 
 // How long the text of a tree is: 01's measure.

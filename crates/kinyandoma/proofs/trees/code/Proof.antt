@@ -1,4 +1,4 @@
--- `kinyandoma::trees::code` meets its contract: numbers are small and the place is below 2^32, so they can be joined.
+-- `kinyandoma::trees::code` meets its contract: numbers are small and the place is below 2^32, so that they fit into one number.
 use native.Mathlib.Omega.{arith}
 use Rattle.kinyandoma.specs.Trees.{code}
 use Rattle.render.specs.Laws.{number-small}
@@ -6,13 +6,17 @@ use borrow.Author.Needs.{needs}
 use Rattle.kinyandoma.proofs.trees.code.Statement.{statement}
 use Rattle.kinyandoma.proofs.trees.code.Tie as tie
 
-joined-requires : tie.Need-joined-requires
-joined-requires c κs =
-    (omega (arith, number-small (c .before .before .args .o), c .before .number .ensures), omega (arith, c .place .ensures))
+mul-result : tie.Need-mul-result
+mul-result c = record { fits = omega (arith, number-small (c .before .args .o), c .number .ensures) }
+
+add-result : tie.Need-add-result
+add-result c =
+    let small = number-small (c .before .before .args .o) in
+    record { fits = omega (arith, small, c .before .number .ensures, c .place .ensures, c .before .before .pre) }
 
 returns : tie.Need-returns
 unfolding code
-returns c = omega (arith, c .before .before .number .ensures, c .before .place .ensures, c .joined .ensures)
+returns c = omega (arith, c .before .number .ensures, c .place .ensures)
 
 pub code-spec : {M : Type 1} → statement M
-code-spec = tie.close (tie.spec (λ c κs. search needs) (λ c κs. search needs) joined-requires returns)
+code-spec = tie.close (tie.spec (λ c κs. search needs) mul-result (λ c κs. search needs) add-result returns)

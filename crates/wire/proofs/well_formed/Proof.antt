@@ -1,9 +1,9 @@
--- `kinyandoma::well_formed` meets its contract: the length, and then the first byte.
+-- `wire::well_formed` meets its contract: the length, and then the first byte.
 use borrow.Author.Tests.{eq-eqb, ne-eqb}
-use Rattle.kinyandoma.specs.Wire.{wellFormed}
+use Rattle.wire.specs.Wire.{wellFormed}
 use borrow.Author.Needs.{needs}
-use Rattle.kinyandoma.proofs.well_formed.Statement.{statement}
-use Rattle.kinyandoma.proofs.well_formed.Tie as tie
+use Rattle.wire.proofs.well_formed.Statement.{statement}
+use Rattle.wire.proofs.well_formed.Tie as tie
 
 returns : tie.Need-returns
 unfolding wellFormed

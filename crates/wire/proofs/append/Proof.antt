@@ -1,9 +1,9 @@
--- `kinyandoma::kinyandoma_append` meets its contract: a record that is not well formed is refused, and else `step` is called on the record that it packs.
+-- `wire::append` meets its contract: a record that is not well formed is refused, and else `step` is called on the record that it packs.
 use Rattle.append.specs.Laws.{place-small}
-use Rattle.kinyandoma.specs.Laws.{well-length, not-well, well}
+use Rattle.wire.specs.Laws.{well-length, not-well, well}
 use borrow.Author.Needs.{needs}
-use Rattle.kinyandoma.proofs.kinyandoma_append.Statement.{statement}
-use Rattle.kinyandoma.proofs.kinyandoma_append.Tie as tie
+use Rattle.wire.proofs.append.Statement.{statement}
+use Rattle.wire.proofs.append.Tie as tie
 
 returns : tie.Need-returns
 returns c = not-well _ _ _ _ _ _ (c .before .before .well-formed .ensures) (c .before .if1 .taken) (c .code .ensures)
@@ -30,8 +30,8 @@ returns-2 c =
     well _ _ _ _ _ _ _ _ _ _ _ (at-well-formed .ensures) (at-if1 .left) (at-unpack .ensures)
     (at-step .ensures) (c .code2 .ensures) (at-repack .ensures)
 
-pub kinyandoma-append-spec : {M : Type 1} → statement M
-kinyandoma-append-spec =
+pub append-spec : {M : Type 1} → statement M
+append-spec =
     tie.close
     (tie.spec
     (λ c κs. search needs) (λ c κs. search needs) (λ c. search needs) returns unpack-requires

@@ -1,10 +1,10 @@
--- `kinyandoma::code` meets its contract: numbers are small and the place is below 2^32, so they can be joined.
+-- `wire::code` meets its contract: numbers are small and the place is below 2^32, so they can be joined.
 use native.Mathlib.Omega.{arith}
 use Rattle.append.specs.Append.{code}
-use Rattle.kinyandoma.specs.Laws.{number-small}
+use Rattle.append.specs.Laws.{number-small}
 use borrow.Author.Needs.{needs}
-use Rattle.kinyandoma.proofs.code.Statement.{statement}
-use Rattle.kinyandoma.proofs.code.Tie as tie
+use Rattle.wire.proofs.code.Statement.{statement}
+use Rattle.wire.proofs.code.Tie as tie
 
 joined-requires : tie.Need-joined-requires
 joined-requires c κs =

@@ -1,9 +1,9 @@
--- `kinyandoma::pack` meets its contract: nine bytes are copied over nine.
+-- `wire::pack` meets its contract: nine bytes are copied over nine.
 use mathlib.Core.Path.{_∙_}
-use Rattle.kinyandoma.specs.Laws.{copied-over, packed-length}
+use Rattle.wire.specs.Laws.{copied-over, packed-length}
 use borrow.Author.Needs.{needs}
-use Rattle.kinyandoma.proofs.pack.Statement.{statement}
-use Rattle.kinyandoma.proofs.pack.Tie as tie
+use Rattle.wire.proofs.pack.Statement.{statement}
+use Rattle.wire.proofs.pack.Tie as tie
 
 returns : tie.Need-returns
 returns c =

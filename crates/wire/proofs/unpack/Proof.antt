@@ -1,8 +1,8 @@
--- `kinyandoma::unpack` meets its contract: the count is the number of the eight bytes behind the first.
-use Rattle.kinyandoma.specs.Laws.{unpacks}
+-- `wire::unpack` meets its contract: the count is the number of the eight bytes behind the first.
+use Rattle.wire.specs.Laws.{unpacks}
 use borrow.Author.Needs.{needs}
-use Rattle.kinyandoma.proofs.unpack.Statement.{statement}
-use Rattle.kinyandoma.proofs.unpack.Tie as tie
+use Rattle.wire.proofs.unpack.Statement.{statement}
+use Rattle.wire.proofs.unpack.Tie as tie
 
 returns : tie.Need-returns
 returns c =

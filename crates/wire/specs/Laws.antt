@@ -1,5 +1,5 @@
--- Laws of the calls across the boundary.
-use Prim.Native.Nat.{ℕ, _+_, _*_, _<_}
+-- Laws of append across the boundary.
+use Prim.Native.Nat.{ℕ, _+_, _*_}
 use native.Mathlib.Omega.{arith}
 use mathlib.Core.Path.{_≡_, refl, _∙_, ap, sym}
 use mathlib.Core.List.{List, _++_, append-nil}
@@ -11,21 +11,11 @@ use Rattle.append.specs.Laws as append
 use lib.Dec.{leb, eqb}
 use lib.ListN.{length, getD, take, drop, drop-of-length-le}
 use lib.Seq.{take-length, drop-cons}
-use Rattle.utf8.specs.Laws as utf8
 use Rattle.append.specs.declared.Stream.{Stream}
 use Rattle.append.specs.declared.Answer.{Answer}
-use Rattle.append.specs.declared.Answer.the-variants.{Added, Malformed, Unknown, TooLong, Broken, NoRoom}
-use Rattle.append.specs.Append.{Appends, number, code}
-use Rattle.kinyandoma.specs.Wire.{wellFormed, unpacked, packed, repacked, Done, Crosses}
-
--- a number of 01's table is small
-pub number-small : (a : Answer) → number a < 16
-number-small (Added n) = omega arith
-number-small Malformed = omega arith
-number-small Unknown = omega arith
-number-small TooLong = omega arith
-number-small (Broken e) = utf8.number-small e
-number-small (NoRoom n) = omega arith
+use Rattle.append.specs.declared.Answer.the-variants.{Malformed}
+use Rattle.append.specs.Append.{Appends, code}
+use Rattle.wire.specs.Wire.{wellFormed, unpacked, packed, repacked, Done, Crosses}
 
 -- the count of nine bytes
 abbrev byteOf : List ℕ → ℕ → ℕ

@@ -1,7 +1,7 @@
--- `kinyandoma::repack` meets its contract: bytes that were added pack the record anew, and a refusal leaves it.
+-- `wire::repack` meets its contract: bytes that were added pack the record anew, and a refusal leaves it.
 use borrow.Author.Needs.{needs}
-use Rattle.kinyandoma.proofs.repack.Statement.{statement}
-use Rattle.kinyandoma.proofs.repack.Tie as tie
+use Rattle.wire.proofs.repack.Statement.{statement}
+use Rattle.wire.proofs.repack.Tie as tie
 
 returns : tie.Need-returns
 returns c = rw (c .before .before .before .before .enum-told .given .1) (c .before .before .pack .ensures)

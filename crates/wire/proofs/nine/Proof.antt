@@ -1,8 +1,8 @@
--- `kinyandoma::nine` meets its contract: byte by byte.
-use Rattle.kinyandoma.specs.Wire.{packed}
+-- `wire::nine` meets its contract: byte by byte.
+use Rattle.wire.specs.Wire.{packed}
 use borrow.Author.Needs.{needs}
-use Rattle.kinyandoma.proofs.nine.Statement.{statement}
-use Rattle.kinyandoma.proofs.nine.Tie as tie
+use Rattle.wire.proofs.nine.Statement.{statement}
+use Rattle.wire.proofs.nine.Tie as tie
 
 returns : tie.Need-returns
 unfolding packed
