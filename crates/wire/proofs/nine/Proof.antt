@@ -6,7 +6,18 @@ use Rattle.wire.proofs.nine.Tie as tie
 
 returns : tie.Need-returns
 unfolding packed
-returns c = cc
+returns c =
+    rw (
+      c .before .before .before .before .before .before .before .before .bit .ensures,
+      c .before .before .before .before .before .before .before .low .ensures,
+      c .before .before .before .before .before .before .low2 .ensures,
+      c .before .before .before .before .before .low3 .ensures,
+      c .before .before .before .before .low4 .ensures,
+      c .before .before .before .low5 .ensures,
+      c .before .before .low6 .ensures,
+      c .before .low7 .ensures,
+      c .low8 .ensures,
+    )
 
 pub nine-spec : {M : Type 1} → statement M
 nine-spec =
