@@ -3,7 +3,7 @@ use Prim.Native.Nat.{ℕ, _+_, _-_, _/_, _%_, _≤_, _<_}
 use native.Mathlib.Omega.{arith}
 use mathlib.Core.Path.{_≡_, refl, _∙_, ap, sym}
 use mathlib.Core.List.{List, [], _∷_}
-use mathlib.Core.Bool.{Bool, true, false, not, cond, _&&_, _||_, Bool·beq, false≢true, and-true, or-false}
+use mathlib.Core.Bool.{Bool, true, false, not, cond, _&&_, _||_, Bool·beq, false≢true, and-true, or-false, or-true}
 use lib.Dec.{leb, ltb, eqb}
 use lib.ListN.{length, replicate, length-replicate}
 use borrow.Author.Tests.{eq-eqb, ne-eqb, lt-leb, le-leb, not-true, not-false}
@@ -67,7 +67,7 @@ flags-rule m r e h k = rw (ne-eqb (r .kind) TOKEN k, e, rule-flags (r .kind) h)
 abbrev pub Counts : Record → Bool → Type 0
 Counts r b = (c : Class) → b ≡ eqb (r .kids) (length (holds c r))
 
-pub any-count : (c : Class) (r : Record) → (eqb (r .kind) LIST || eqb (r .kind) RUN) ≡ true → true ≡ eqb (r .kids) (length (holds c r))
+any-count : (c : Class) (r : Record) → (eqb (r .kind) LIST || eqb (r .kind) RUN) ≡ true → true ≡ eqb (r .kids) (length (holds c r))
 unfolding holds
 any-count c r h = by (eqb (r .kind) LIST) (eqb (r .kind) RUN) h
   where
@@ -87,8 +87,25 @@ holds-slots c r h = by (eqb (r .kind) LIST) (eqb (r .kind) RUN) h
     by false true e = absurd (false≢true (sym e))
     by false false e = refl
 
-pub slot-count : (m : ℕ) (r : Record) → m ≡ ruleOf (r .kind) → r .kind < kindsHeld → (eqb (r .kind) LIST || eqb (r .kind) RUN) ≡ false → Counts r (eqb (r .kids) (m / 256))
+slot-count : (m : ℕ) (r : Record) → m ≡ ruleOf (r .kind) → r .kind < kindsHeld → (eqb (r .kind) LIST || eqb (r .kind) RUN) ≡ false → Counts r (eqb (r .kids) (m / 256))
 slot-count m r e h k c = rw (holds-slots c r k, e, rule-slots (r .kind) h)
+
+-- as many as the kind's rule m says, or another number: then only a LIST and a RUN may have it
+module _ (m : ℕ) (r : Record) (e : m ≡ ruleOf (r .kind)) (h : r .kind < kindsHeld) where
+  pub as-said : r .kids ≡ m / 256 → Counts r true
+  as-said k c = by (eqb (r .kind) LIST || eqb (r .kind) RUN) refl
+    where
+      by : (b : Bool) → (eqb (r .kind) LIST || eqb (r .kind) RUN) ≡ b → true ≡ eqb (r .kids) (length (holds c r))
+      by true t = any-count c r t
+      by false t = sym (eq-eqb (r .kids) (m / 256) k) ∙ slot-count m r e h t c
+
+  pub not-as-said : (r .kids ≡ m / 256 → ⊥) → Counts r (eqb (r .kind) LIST || eqb (r .kind) RUN)
+  not-as-said k c = by (eqb (r .kind) LIST || eqb (r .kind) RUN) refl
+    where
+      by : (b : Bool) → (eqb (r .kind) LIST || eqb (r .kind) RUN) ≡ b
+          → (eqb (r .kind) LIST || eqb (r .kind) RUN) ≡ eqb (r .kids) (length (holds c r))
+      by true t = t ∙ any-count c r t
+      by false t = t ∙ (sym (ne-eqb (r .kids) (m / 256) k) ∙ slot-count m r e h t c)
 
 -- ---- the record in its place
 pub kind-held : (n : ℕ) (r : Record) (b : Bool) → n < classesHeld → b ≡ allowed (classAt n) (r .kind) → not b ≡ false → r .kind < kindsHeld
@@ -153,6 +170,10 @@ module _ (r : Record) where
 
 -- ---- the text part
 module _ (r : Record) where
+  pub behind-text : TEXT < r .kind → false ≡ hasPart r
+  unfolding hasPart
+  behind-text h = rw (ne-eqb (r .kind) TEXT (λ z. omega arith), ne-eqb (r .kind) TOKEN (λ z. omega arith))
+
   pub token-part : r .kind ≡ TOKEN → leb 0x8000 (r .flags) ≡ hasPart r
   unfolding hasPart
   token-part e = rw e
@@ -161,20 +182,19 @@ module _ (r : Record) where
   unfolding hasPart
   other-part e = rw (ne-eqb (r .kind) TOKEN e, or-false)
 
+  pub zeros-fit : (eqb (r .start) 0 && eqb (r .len) 0) ≡ true → true ≡ fieldsFit r
+  unfolding fieldsFit
+  zeros-fit z = rw (z, or-true, or-true)
+
+  pub number-fits : r .kind ≡ NUMBER → true ≡ fieldsFit r
+  unfolding fieldsFit
+  number-fits e = rw (eq-eqb (r .kind) NUMBER e, or-true)
+
+  pub part-fits : (eqb (r .start) 0 && eqb (r .len) 0) ≡ false → (r .kind ≡ NUMBER → ⊥) → (b : Bool) → b ≡ hasPart r → b ≡ fieldsFit r
+  unfolding fieldsFit
+  part-fits z e b be = rw (z, ne-eqb (r .kind) NUMBER e, or-false) be
+
   module _ (b : Bool) (be : b ≡ hasPart r) where
-    pub part-fits : b ≡ true → true ≡ fieldsFit r
-    unfolding fieldsFit
-    part-fits h = rw (← be, h)
-
-    module _ (z : b ≡ false) where
-      pub number-fits : r .kind ≡ NUMBER → true ≡ fieldsFit r
-      unfolding fieldsFit
-      number-fits e = rw (← be, z, eq-eqb (r .kind) NUMBER e)
-
-      pub zero-fits : (r .kind ≡ NUMBER → ⊥) → (eqb (r .start) 0 && eqb (r .len) 0) ≡ fieldsFit r
-      unfolding fieldsFit
-      zero-fits e = rw (← be, z, ne-eqb (r .kind) NUMBER e)
-
     module _ (x : List ℕ) where
       pub no-part : not b ≡ true → true ≡ inside x r
       unfolding inside

@@ -73,27 +73,30 @@ pub enum Answer {
     Ends(usize),
 }
 
-// Whether a record has a text part.
+// Whether a record has a text part: no kind behind TEXT has one.
 fn has_part(r: Record) -> bool
     ensures { λ b. ⌜ b ≡ hasPart r ⌝ }
 {
+    if TEXT < r.kind {
+        return false;
+    }
     if r.kind == TOKEN {
         return PRESENT <= r.flags;
     }
     r.kind == TEXT
 }
 
-// Whether bytes 8-15 are a text part, a number, or zero.
+// Whether bytes 8-15 are zero, a number, or a text part.
 fn fields_fit(r: Record) -> bool
     ensures { λ b. ⌜ b ≡ fieldsFit r ⌝ }
 {
-    if has_part(r) {
+    if (r.start == 0) & (r.len == 0) {
         return true;
     }
     if r.kind == NUMBER {
         return true;
     }
-    (r.start == 0) & (r.len == 0)
+    has_part(r)
 }
 
 // Whether a NUMBER is one that its place takes.
@@ -130,10 +133,10 @@ fn count_fits(rule: u16, r: Record) -> bool
     requires { ⌜ (rule ≡ ruleOf (r .kind)) × (r .kind < kindsHeld) ⌝ }
     ensures { λ b. ⌜ Counts r b ⌝ }
 {
-    if (r.kind == LIST) | (r.kind == RUN) {
+    if r.kids == rule / SLOTS {
         return true;
     }
-    r.kids == rule / SLOTS
+    (r.kind == LIST) | (r.kind == RUN)
 }
 
 // Whether a record may stand in a place, as it is.
