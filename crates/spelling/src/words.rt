@@ -4,13 +4,14 @@ ghost use mathlib.Core.Path.{_≡_};
 ghost use Prim.Native.Nat.{_%_};
 ghost use lib.ListN.{length};
 ghost use Rattle.spelling.specs.Spelling.{spelling};
-ghost use Rattle.spelling.specs.Words.{first as first', rest as rest', padded, bytesOf};
-use super::LENGTHS;
-use super::row;
+ghost use Rattle.spelling.specs.Words.{first as first', rest as rest', span as span', padded, bytesOf};
 use super::token;
 
 // A number holds eight bytes, the first one lowest.
 const HELD: usize = 8;
+
+// The bits of a byte.
+const BITS: usize = 8;
 
 // A spelling: the first len of the bytes, and zeros behind it.
 pub struct Word {
@@ -249,22 +250,11 @@ fn rest(number: u16) -> u64
     }
 }
 
-// How long a number's spelling is.
-fn length_of(number: u16) -> usize
-    ensures { λ r. ⌜ r ≡ length (spelling number) ⌝ }
+// How many bytes such a number holds: up to the highest that is not zero.
+fn span(n: u64) -> usize
+    ensures { λ r. ⌜ r ≡ span' n ⌝ }
 {
-    row(number) as usize % LENGTHS
-}
-
-// The same as `rest` for a spelling of so many bytes: most are short, and there is nothing to look up.
-fn behind(number: u16, len: usize) -> u64
-    requires { ⌜ len ≡ length (spelling number) ⌝ }
-    ensures { λ r. ⌜ r ≡ rest' number ⌝ }
-{
-    if len <= HELD {
-        return 0;
-    }
-    rest(number)
+    HELD - u64::leading_zeros(n) as usize / BITS
 }
 
 // The lowest byte of a number.
@@ -312,11 +302,21 @@ fn bytes_of(a0: u64, b0: u64) -> [u8; 16]
     ]
 }
 
-// What a token number is spelled as: len is 0 where it has no fixed spelling.
+// What a token number is spelled as: len is 0 where it has no fixed spelling. Most are short, and have no rest to look up.
 pub fn of(number: u16) -> Word
     ensures { λ r. ⌜ (r .bytes ≡ padded number) × (r .len ≡ length (spelling number)) ⌝ }
 {
-    let len = length_of(number);
-    let bytes = bytes_of(first(number), behind(number, len));
-    Word { bytes, len }
+    let start = first(number);
+    let n = span(start);
+    if n < HELD {
+        return Word {
+            bytes: bytes_of(start, 0),
+            len: n,
+        };
+    }
+    let more = rest(number);
+    Word {
+        bytes: bytes_of(start, more),
+        len: n + span(more),
+    }
 }

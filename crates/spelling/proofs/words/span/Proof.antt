@@ -1,0 +1,20 @@
+-- `spelling::words::span` meets its contract: a number of 64 bits has no more than 64 zeros at its top.
+use mathlib.Core.Path.{refl}
+use native.Mathlib.Omega.{arith}
+use lib.Count.{leading-le}
+use Rattle.spelling.specs.Words.{span}
+use Rattle.spelling.proofs.words.span.Statement.{statement}
+use Rattle.spelling.proofs.words.span.Tie as tie
+
+cast-result : tie.Need-cast-result
+cast-result c = omega (arith, leading-le 64 (c .args .n))
+
+sub-result : tie.Need-sub-result
+sub-result c = omega (arith, leading-le 64 (c .args .n))
+
+returns : tie.Need-returns
+unfolding span
+returns c = refl
+
+pub span-spec : {M : Type 1} → statement M
+span-spec = tie.close (tie.spec cast-result sub-result returns)
