@@ -22,6 +22,11 @@ beq true false h = absurd (false≢true h)
 beq false true h = absurd (false≢true h)
 beq false false h = refl
 
+pub as-one : (a b : Bool) → (a ≡ true → b ≡ true) → (b ≡ true → a ≡ true) → a ≡ b
+as-one true b f g = sym (f refl)
+as-one false true f g = g refl
+as-one false false f g = refl
+
 -- neither of two
 pub or-left : (a b : Bool) → (a || b) ≡ false → a ≡ false
 or-left true b e = e

@@ -5,11 +5,11 @@ use mathlib.Core.List.{List, [], _∷_}
 use mathlib.Core.Bool.{Bool, true, false, not, _&&_, false≢true}
 use native.Mathlib.Omega.{arith}
 use native.Mathlib.Nat.{not-suc-le-zero}
-use lib.Dec.{ltb}
+use lib.Dec.{leb, ltb}
 use lib.ListN.{length, take, drop, getD, length-drop}
-use lib.Seq.{take-all, take-add, getD-drop}
-use borrow.Author.Tests.{ltb-true, ltb-false}
-use Rattle.laws.specs.Tests.{and-left, and-right}
+use lib.Seq.{take-all, take-add, take-length, getD-drop}
+use borrow.Author.Tests.{ltb-true, ltb-false, lt-leb, le-leb, lt-ltb, le-ltb}
+use Rattle.laws.specs.Tests.{and-left, and-right, and-both, as-one}
 use Rattle.utf8.specs.Rfc3629.{Text, none, one}
 use Rattle.utf8.specs.Characters.{NoChar}
 use Rattle.utf8.specs.Laws.{text-append, text-char}
@@ -56,12 +56,54 @@ overlap s i k w n l e a b j h = by (ltb j i) refl
 pub rest : (s : List ℕ) (k : ℕ) → take (length s - k) (drop k s) ≡ drop k s
 rest s k = take-all (length s - k) (drop k s) (omega (arith, length-drop k s))
 
--- two tests of w bytes, at the start and in the part from k on, reach all n
+-- the bytes are from four to fifteen, and plain
+unfoldable pub plainFew : List ℕ → Bool
+plainFew s = (leb 4 (length s) && ltb (length s) 16) && plain (length s) s
+
+-- what is plain by its places is plain by the test
+plain-by : (n : ℕ) (s : List ℕ) → Plain n s → plain n s ≡ true
+plain-by zero s p = refl
+plain-by (suc n) s p =
+    and-both (plain n s) (ltb (getD s n 0) 0x80) (plain-by n s (λ i l. p i (omega arith))) (lt-ltb (getD s n 0) 0x80 (p n (omega arith)))
+
+-- w of n plain bytes from k on are plain
+part-of : (s : List ℕ) (n k w : ℕ) → n ≡ k + w → Plain n s → Plain w (drop k s)
+part-of s n k w e p i h = rw (getD-drop k s i 0) (p (k + i) (omega arith))
+
+-- two tests of w bytes, at the start and in the part from k on, reach all n; and where all n are plain, both hold
 pub both : (s : List ℕ) (w k n : ℕ) (a b : Bool) → k ≤ w → n ≡ k + w → a ≡ plain w s → b ≡ plain w (take (length s - k) (drop k s))
     → a && b ≡ true → Plain n s
 both s w k n a b l e p q t =
     overlap s w k w n l e (plain-at w s (sym p ∙ and-left a b t))
     (plain-at w (drop k s) (rw (rest s k) at (sym q ∙ and-right a b t)))
+
+both-from : (s : List ℕ) (w k n : ℕ) (a b : Bool) → k ≤ w → n ≡ k + w → a ≡ plain w s → b ≡ plain w (take (length s - k) (drop k s))
+    → plain n s ≡ true → a && b ≡ true
+both-from s w k n a b l e p q t =
+    let all = plain-at n s t in
+    and-both a b (p ∙ plain-by w s (λ i h. all i (omega arith))) (q ∙ rw (rest s k) (plain-by w (drop k s) (part-of s n k w e all)))
+
+-- the ways through the test of a few: too few, too many, and two tests
+pub too-few : (s : List ℕ) → length s < 4 → false ≡ plainFew s
+unfolding plainFew
+too-few s h = rw (lt-leb 4 (length s) h)
+
+pub too-many : (s : List ℕ) → 16 ≤ length s → false ≡ plainFew s
+unfolding plainFew
+too-many s h = rw (le-leb 4 (length s) (omega arith), le-ltb (length s) 16 h)
+
+pub few-by-two : (s : List ℕ) (w k : ℕ) (a b : Bool) → 4 ≤ length s → length s < 16 → k ≤ w → length s ≡ k + w
+    → a ≡ plain w s → b ≡ plain w (take (length s - k) (drop k s)) → (a && b) ≡ plainFew s
+unfolding plainFew
+few-by-two s w k a b f m l e p q =
+    rw (le-leb 4 (length s) f, lt-ltb (length s) 16 m)
+    (as-one (a && b) (plain (length s) s) (λ t. plain-by (length s) s (both s w k (length s) a b l e p q t)) (both-from s w k (length s) a b l e p q))
+
+-- and what it comes to
+pub few-plain : (s : List ℕ) (b : Bool) → b ≡ plainFew s → b ≡ true → Plain (length s) s
+unfolding plainFew
+few-plain s b e t =
+    plain-at (length s) s (and-right (leb 4 (length s) && ltb (length s) 16) (plain (length s) s) (sym e ∙ t))
 
 pub not-false : (b : Bool) → not b ≡ false → b ≡ true
 not-false true e = refl
@@ -109,3 +151,7 @@ plain-text (suc n) s h p =
     rw (← z, take-add n 1 s)
     (text-append (plain-text n s (omega arith) (λ i l. p i (omega arith)))
     (first (drop n s) (rw (length-drop n s) (omega arith)) (rw (getD-drop n s 0 0, y) (p n (omega arith)))))
+
+-- a few plain bytes are one
+pub few-text : (s : List ℕ) (b : Bool) → b ≡ plainFew s → b ≡ true → Text s
+few-text s b e t = rw (take-length s) at (plain-text (length s) s (omega arith) (few-plain s b e t))

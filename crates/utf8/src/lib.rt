@@ -5,7 +5,7 @@ ghost use mathlib.Core.Bool.{true};
 ghost use lib.ListN.{length};
 ghost use Rattle.utf8.specs.Rfc3629.{Encoded, number as number', place as place', tail as tail', boundary as boundary'};
 ghost use Rattle.utf8.specs.Scan.{ones as ones', low as low', high as high', second as second', two as two', three as three', four as four', width};
-ghost use Rattle.utf8.specs.Plain.{plain, Plain, Goes};
+ghost use Rattle.utf8.specs.Plain.{plain, plainFew, Plain, Goes};
 
 // A tail, a byte that goes on with a character, is from 80 to BF.
 const TAIL_FIRST: u8 = 0x80;
@@ -245,25 +245,21 @@ fn blocks(s: &[u8]) -> usize
     i
 }
 
-// All of fewer than sixteen bytes, where they are plain, else 0: two tests that overlap reach them all.
-fn few(s: &[u8]) -> usize
-    requires { ⌜ length (now s) < 16 ⌝ }
-    ensures { λ r. ⌜ (r ≤ length (now (s .entry))) × Plain r (now (s .entry)) ⌝ }
+// Whether bytes are plain and from four to fifteen: two tests that overlap reach them all. Most values are, and need no other check.
+pub fn plain_few(s: &[u8]) -> bool
+    ensures { λ r. ⌜ r ≡ plainFew (now (s .entry)) ⌝ }
 {
     let n = s.len();
     if n < FOUR {
-        return 0;
+        return false;
     }
     if n < EIGHT {
-        if plain_four(s) & plain_four(&s[n - FOUR..]) {
-            return n;
-        }
-        return 0;
+        return plain_four(s) & plain_four(&s[n - FOUR..]);
     }
-    if plain_eight(s) & plain_eight(&s[n - EIGHT..]) {
-        return n;
+    if n < BLOCK {
+        return plain_eight(s) & plain_eight(&s[n - EIGHT..]);
     }
-    0
+    false
 }
 
 // Where the pages of plain bytes that begin the bytes and the blocks behind them end.
@@ -279,8 +275,11 @@ fn plain_start(s: &[u8]) -> usize
     ensures { λ r. ⌜ (r ≤ length (now (s .entry))) × Plain r (now (s .entry)) ⌝ }
 {
     let n = s.len();
+    if plain_few(s) {
+        return n;
+    }
     if n < BLOCK {
-        return few(s);
+        return 0;
     }
     let i = pages_and_blocks(s);
     if n - i < BLOCK {
