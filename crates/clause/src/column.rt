@@ -18,33 +18,33 @@ use spelling::token::TK_EQ;
 pub fn column_definition(
     p: Pen,
     out: &mut [u8],
-    words: &[u8],
+    pool: &[u8],
     tree: &[u8],
     text: &[u8],
     left: usize,
 ) -> Pen
-    ensures { λ q. ⌜ Below (source (now (tree .entry)) (now (text .entry))) (now (words .entry)) left (slot columnDefinition) (p, now (out .entry)) (q, now (out .exit)) ⌝ }
+    ensures { λ q. ⌜ Below (source (now (tree .entry)) (now (text .entry))) (now (pool .entry)) left (slot columnDefinition) (p, now (out .entry)) (q, now (out .exit)) ⌝ }
 {
     let r = record::read(tree, p.next);
     if (left == 0) | (r.kind != COLUMN_DEFINITION) {
-        return run(p, out, words, tree, text);
+        return run(p, out, pool, tree, text);
     }
     let q = pass(p, tree);
-    let q = run(q, out, words, tree, text);
-    let q = type_name(q, out, words, tree, text, left - 1);
-    each(q, out, words, tree, text)
+    let q = run(q, out, pool, tree, text);
+    let q = type_name(q, out, pool, tree, text, left - 1);
+    each(q, out, pool, tree, text)
 }
 
 // Name and value of an index's WITH (118).
-pub fn pair(p: Pen, out: &mut [u8], words: &[u8], tree: &[u8], text: &[u8], left: usize) -> Pen
-    ensures { λ q. ⌜ Below (source (now (tree .entry)) (now (text .entry))) (now (words .entry)) left (slot (node (Pair ∷ []))) (p, now (out .entry)) (q, now (out .exit)) ⌝ }
+pub fn pair(p: Pen, out: &mut [u8], pool: &[u8], tree: &[u8], text: &[u8], left: usize) -> Pen
+    ensures { λ q. ⌜ Below (source (now (tree .entry)) (now (text .entry))) (now (pool .entry)) left (slot (node (Pair ∷ []))) (p, now (out .entry)) (q, now (out .exit)) ⌝ }
 {
     let r = record::read(tree, p.next);
     if (left == 0) | (r.kind != PAIR) {
-        return run(p, out, words, tree, text);
+        return run(p, out, pool, tree, text);
     }
     let q = pass(p, tree);
-    let q = run(q, out, words, tree, text);
-    let q = word(q, out, words, TK_EQ);
-    run(q, out, words, tree, text)
+    let q = run(q, out, pool, tree, text);
+    let q = word(q, out, pool, TK_EQ);
+    run(q, out, pool, tree, text)
 }

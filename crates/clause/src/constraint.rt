@@ -45,157 +45,157 @@ use spelling::token::TK_UNIQUE;
 fn primary_key(
     p: Pen,
     out: &mut [u8],
-    words: &[u8],
+    pool: &[u8],
     tree: &[u8],
     text: &[u8],
     auto_increment: bool,
 ) -> Pen
-    ensures { λ q. ⌜ ((d : ℕ) (r : Record') → «auto_increment» ≡ flagged 0 r → Writes (source (now (tree .entry)) (now (text .entry))) (now (words .entry)) d r (shape PrimaryKey) (p, now (out .entry)) (q, now (out .exit))) ⌝ }
+    ensures { λ q. ⌜ ((d : ℕ) (r : Record') → «auto_increment» ≡ flagged 0 r → Writes (source (now (tree .entry)) (now (text .entry))) (now (pool .entry)) d r (shape PrimaryKey) (p, now (out .entry)) (q, now (out .exit))) ⌝ }
 {
-    let q = word(p, out, words, TK_PRIMARY);
-    let q = word(q, out, words, TK_KEY);
-    let q = word(q, out, words, TK_LP);
-    let q = comma(q, out, words, tree, text);
-    let q = word_if(q, out, words, auto_increment, TK_AUTOINCR);
-    let q = word(q, out, words, TK_RP);
-    on_conflict(q, out, words, tree, text)
+    let q = word(p, out, pool, TK_PRIMARY);
+    let q = word(q, out, pool, TK_KEY);
+    let q = word(q, out, pool, TK_LP);
+    let q = comma(q, out, pool, tree, text);
+    let q = word_if(q, out, pool, auto_increment, TK_AUTOINCR);
+    let q = word(q, out, pool, TK_RP);
+    on_conflict(q, out, pool, tree, text)
 }
 
 // Unique (102).
-fn unique(p: Pen, out: &mut [u8], words: &[u8], tree: &[u8], text: &[u8]) -> Pen
-    ensures { λ q. ⌜ Always (source (now (tree .entry)) (now (text .entry))) (now (words .entry)) (shape Unique) (p, now (out .entry)) (q, now (out .exit)) ⌝ }
+fn unique(p: Pen, out: &mut [u8], pool: &[u8], tree: &[u8], text: &[u8]) -> Pen
+    ensures { λ q. ⌜ Always (source (now (tree .entry)) (now (text .entry))) (now (pool .entry)) (shape Unique) (p, now (out .entry)) (q, now (out .exit)) ⌝ }
 {
-    let q = word(p, out, words, TK_UNIQUE);
-    let q = in_parens(q, out, words, tree, text);
-    on_conflict(q, out, words, tree, text)
+    let q = word(p, out, pool, TK_UNIQUE);
+    let q = in_parens(q, out, pool, tree, text);
+    on_conflict(q, out, pool, tree, text)
 }
 
 // Check (103).
-fn check(p: Pen, out: &mut [u8], words: &[u8], tree: &[u8], text: &[u8]) -> Pen
-    ensures { λ q. ⌜ Always (source (now (tree .entry)) (now (text .entry))) (now (words .entry)) (shape Check) (p, now (out .entry)) (q, now (out .exit)) ⌝ }
+fn check(p: Pen, out: &mut [u8], pool: &[u8], tree: &[u8], text: &[u8]) -> Pen
+    ensures { λ q. ⌜ Always (source (now (tree .entry)) (now (text .entry))) (now (pool .entry)) (shape Check) (p, now (out .entry)) (q, now (out .exit)) ⌝ }
 {
-    let q = word(p, out, words, TK_CHECK);
-    let q = word(q, out, words, TK_LP);
-    let q = check_source(q, out, words, tree, text);
-    word(q, out, words, TK_RP)
+    let q = word(p, out, pool, TK_CHECK);
+    let q = word(q, out, pool, TK_LP);
+    let q = check_source(q, out, pool, tree, text);
+    word(q, out, pool, TK_RP)
 }
 
 // ForeignKeyClause (105).
 pub fn foreign_key_clause(
     p: Pen,
     out: &mut [u8],
-    words: &[u8],
+    pool: &[u8],
     tree: &[u8],
     text: &[u8],
     left: usize,
 ) -> Pen
-    ensures { λ q. ⌜ Below (source (now (tree .entry)) (now (text .entry))) (now (words .entry)) left (slot (node (ForeignKeyClause ∷ []))) (p, now (out .entry)) (q, now (out .exit)) ⌝ }
+    ensures { λ q. ⌜ Below (source (now (tree .entry)) (now (text .entry))) (now (pool .entry)) left (slot (node (ForeignKeyClause ∷ []))) (p, now (out .entry)) (q, now (out .exit)) ⌝ }
 {
     let r = record::read(tree, p.next);
     if (left == 0) | (r.kind != FOREIGN_KEY_CLAUSE) {
-        return run(p, out, words, tree, text);
+        return run(p, out, pool, tree, text);
     }
     let q = pass(p, tree);
-    let q = run(q, out, words, tree, text);
-    let q = columns(q, out, words, tree, text);
-    each(q, out, words, tree, text)
+    let q = run(q, out, pool, tree, text);
+    let q = columns(q, out, pool, tree, text);
+    each(q, out, pool, tree, text)
 }
 
 // ForeignKey (104).
-fn foreign_key(p: Pen, out: &mut [u8], words: &[u8], tree: &[u8], text: &[u8], left: usize) -> Pen
-    ensures { λ q. ⌜ Below (source (now (tree .entry)) (now (text .entry))) (now (words .entry)) left (shape ForeignKey) (p, now (out .entry)) (q, now (out .exit)) ⌝ }
+fn foreign_key(p: Pen, out: &mut [u8], pool: &[u8], tree: &[u8], text: &[u8], left: usize) -> Pen
+    ensures { λ q. ⌜ Below (source (now (tree .entry)) (now (text .entry))) (now (pool .entry)) left (shape ForeignKey) (p, now (out .entry)) (q, now (out .exit)) ⌝ }
 {
-    let q = word(p, out, words, TK_FOREIGN);
-    let q = word(q, out, words, TK_KEY);
-    let q = in_parens(q, out, words, tree, text);
-    let q = word(q, out, words, TK_REFERENCES);
-    let q = foreign_key_clause(q, out, words, tree, text, left);
-    run(q, out, words, tree, text)
+    let q = word(p, out, pool, TK_FOREIGN);
+    let q = word(q, out, pool, TK_KEY);
+    let q = in_parens(q, out, pool, tree, text);
+    let q = word(q, out, pool, TK_REFERENCES);
+    let q = foreign_key_clause(q, out, pool, tree, text, left);
+    run(q, out, pool, tree, text)
 }
 
 // TableConstraint (101 to 104).
 pub fn table_constraint(
     p: Pen,
     out: &mut [u8],
-    words: &[u8],
+    pool: &[u8],
     tree: &[u8],
     text: &[u8],
     left: usize,
 ) -> Pen
-    ensures { λ q. ⌜ Below (source (now (tree .entry)) (now (text .entry))) (now (words .entry)) left (slot (node (from PrimaryKey 4))) (p, now (out .entry)) (q, now (out .exit)) ⌝ }
+    ensures { λ q. ⌜ Below (source (now (tree .entry)) (now (text .entry))) (now (pool .entry)) left (slot (node (from PrimaryKey 4))) (p, now (out .entry)) (q, now (out .exit)) ⌝ }
 {
     let r = record::read(tree, p.next);
     if left == 0 {
-        return run(p, out, words, tree, text);
+        return run(p, out, pool, tree, text);
     }
     let q = pass(p, tree);
     let auto_increment = first_flag(r.flags);
     if r.kind == PRIMARY_KEY {
-        return primary_key(q, out, words, tree, text, auto_increment);
+        return primary_key(q, out, pool, tree, text, auto_increment);
     }
     if r.kind == UNIQUE {
-        return unique(q, out, words, tree, text);
+        return unique(q, out, pool, tree, text);
     }
     if r.kind == CHECK {
-        return check(q, out, words, tree, text);
+        return check(q, out, pool, tree, text);
     }
     if r.kind == FOREIGN_KEY {
-        return foreign_key(q, out, words, tree, text, left - 1);
+        return foreign_key(q, out, pool, tree, text, left - 1);
     }
-    run(p, out, words, tree, text)
+    run(p, out, pool, tree, text)
 }
 
 // A named table constraint (120).
 pub fn named_table_constraint(
     p: Pen,
     out: &mut [u8],
-    words: &[u8],
+    pool: &[u8],
     tree: &[u8],
     text: &[u8],
     left: usize,
 ) -> Pen
-    ensures { λ q. ⌜ Below (source (now (tree .entry)) (now (text .entry))) (now (words .entry)) left (slot (node (NamedTableConstraint ∷ []))) (p, now (out .entry)) (q, now (out .exit)) ⌝ }
+    ensures { λ q. ⌜ Below (source (now (tree .entry)) (now (text .entry))) (now (pool .entry)) left (slot (node (NamedTableConstraint ∷ []))) (p, now (out .entry)) (q, now (out .exit)) ⌝ }
 {
     let r = record::read(tree, p.next);
     if (left == 0) | (r.kind != NAMED_TABLE_CONSTRAINT) {
-        return run(p, out, words, tree, text);
+        return run(p, out, pool, tree, text);
     }
     let q = pass(p, tree);
-    let q = run(q, out, words, tree, text);
-    table_constraint(q, out, words, tree, text, left - 1)
+    let q = run(q, out, pool, tree, text);
+    table_constraint(q, out, pool, tree, text, left - 1)
 }
 
 // CONSTRAINT and a name, unless that is NONE.
-fn constraint_name(p: Pen, out: &mut [u8], words: &[u8], tree: &[u8], text: &[u8]) -> Pen
-    ensures { λ q. ⌜ Always (source (now (tree .entry)) (now (text .entry))) (now (words .entry)) (clause TK-CONSTRAINT text') (p, now (out .entry)) (q, now (out .exit)) ⌝ }
+fn constraint_name(p: Pen, out: &mut [u8], pool: &[u8], tree: &[u8], text: &[u8]) -> Pen
+    ensures { λ q. ⌜ Always (source (now (tree .entry)) (now (text .entry))) (now (pool .entry)) (clause TK-CONSTRAINT text') (p, now (out .entry)) (q, now (out .exit)) ⌝ }
 {
     let r = record::read(tree, p.next);
     if r.kind == NONE {
         return pass(p, tree);
     }
-    let q = word(p, out, words, TK_CONSTRAINT);
-    name(q, out, words, tree, text)
+    let q = word(p, out, pool, TK_CONSTRAINT);
+    name(q, out, pool, tree, text)
 }
 
 // A domain constraint (117).
 pub fn domain_constraint(
     p: Pen,
     out: &mut [u8],
-    words: &[u8],
+    pool: &[u8],
     tree: &[u8],
     text: &[u8],
     left: usize,
 ) -> Pen
-    ensures { λ q. ⌜ Below (source (now (tree .entry)) (now (text .entry))) (now (words .entry)) left (slot (node (DomainConstraint ∷ []))) (p, now (out .entry)) (q, now (out .exit)) ⌝ }
+    ensures { λ q. ⌜ Below (source (now (tree .entry)) (now (text .entry))) (now (pool .entry)) left (slot (node (DomainConstraint ∷ []))) (p, now (out .entry)) (q, now (out .exit)) ⌝ }
 {
     let r = record::read(tree, p.next);
     if (left == 0) | (r.kind != DOMAIN_CONSTRAINT) {
-        return run(p, out, words, tree, text);
+        return run(p, out, pool, tree, text);
     }
     let q = pass(p, tree);
-    let q = constraint_name(q, out, words, tree, text);
-    let q = word(q, out, words, TK_CHECK);
-    let q = word(q, out, words, TK_LP);
-    let q = run(q, out, words, tree, text);
-    word(q, out, words, TK_RP)
+    let q = constraint_name(q, out, pool, tree, text);
+    let q = word(q, out, pool, TK_CHECK);
+    let q = word(q, out, pool, TK_LP);
+    let q = run(q, out, pool, tree, text);
+    word(q, out, pool, TK_RP)
 }

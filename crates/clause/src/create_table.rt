@@ -15,34 +15,34 @@ use pen::word;
 use spelling::token::TK_AS;
 
 // AsSelect (99).
-fn as_select(p: Pen, out: &mut [u8], words: &[u8], tree: &[u8], text: &[u8], left: usize) -> Pen
-    ensures { λ q. ⌜ Below (source (now (tree .entry)) (now (text .entry))) (now (words .entry)) left (shape AsSelect) (p, now (out .entry)) (q, now (out .exit)) ⌝ }
+fn as_select(p: Pen, out: &mut [u8], pool: &[u8], tree: &[u8], text: &[u8], left: usize) -> Pen
+    ensures { λ q. ⌜ Below (source (now (tree .entry)) (now (text .entry))) (now (pool .entry)) left (shape AsSelect) (p, now (out .entry)) (q, now (out .exit)) ⌝ }
 {
-    let q = word(p, out, words, TK_AS);
-    select(q, out, words, tree, text, left)
+    let q = word(p, out, pool, TK_AS);
+    select(q, out, pool, tree, text, left)
 }
 
 // CreateTableBody (98 and 99).
 pub fn create_table_body(
     p: Pen,
     out: &mut [u8],
-    words: &[u8],
+    pool: &[u8],
     tree: &[u8],
     text: &[u8],
     left: usize,
 ) -> Pen
-    ensures { λ q. ⌜ Below (source (now (tree .entry)) (now (text .entry))) (now (words .entry)) left (slot (node (ColumnsAndConstraints ∷ AsSelect ∷ []))) (p, now (out .entry)) (q, now (out .exit)) ⌝ }
+    ensures { λ q. ⌜ Below (source (now (tree .entry)) (now (text .entry))) (now (pool .entry)) left (slot (node (ColumnsAndConstraints ∷ AsSelect ∷ []))) (p, now (out .entry)) (q, now (out .exit)) ⌝ }
 {
     let r = record::read(tree, p.next);
     if left == 0 {
-        return run(p, out, words, tree, text);
+        return run(p, out, pool, tree, text);
     }
     let q = pass(p, tree);
     if r.kind == COLUMNS_AND_CONSTRAINTS {
-        return columns_and_constraints(q, out, words, tree, text, left - 1);
+        return columns_and_constraints(q, out, pool, tree, text, left - 1);
     }
     if r.kind == AS_SELECT {
-        return as_select(q, out, words, tree, text, left - 1);
+        return as_select(q, out, pool, tree, text, left - 1);
     }
-    run(p, out, words, tree, text)
+    run(p, out, pool, tree, text)
 }

@@ -25,53 +25,53 @@ use spelling::token::TK_LP;
 use spelling::token::TK_RP;
 
 // The fields, in brackets.
-fn fields(p: Pen, out: &mut [u8], words: &[u8], tree: &[u8], text: &[u8], left: usize) -> Pen
-    ensures { λ q. ⌜ Below (source (now (tree .entry)) (now (text .entry))) (now (words .entry)) left (parens (commas (node (TypeField ∷ [])))) (p, now (out .entry)) (q, now (out .exit)) ⌝ }
+fn fields(p: Pen, out: &mut [u8], pool: &[u8], tree: &[u8], text: &[u8], left: usize) -> Pen
+    ensures { λ q. ⌜ Below (source (now (tree .entry)) (now (text .entry))) (now (pool .entry)) left (parens (commas (node (TypeField ∷ [])))) (p, now (out .entry)) (q, now (out .exit)) ⌝ }
 {
-    let q = word(p, out, words, TK_LP);
-    let q = list(q, out, words, tree, text, left, TYPE_FIELD, true);
-    word(q, out, words, TK_RP)
+    let q = word(p, out, pool, TK_LP);
+    let q = list(q, out, pool, tree, text, left, TYPE_FIELD, true);
+    word(q, out, pool, TK_RP)
 }
 
 // AS, a word and the fields: Struct (111) and Union (112).
 fn type_fields(
     p: Pen,
     out: &mut [u8],
-    words: &[u8],
+    pool: &[u8],
     tree: &[u8],
     text: &[u8],
     left: usize,
     value: &[u8],
 ) -> Pen
-    ensures { λ q. ⌜ WithText (now (value .entry)) (λ v. Below (source (now (tree .entry)) (now (text .entry))) (now (words .entry)) left (word' TK-AS · said' v · parens (commas (node (TypeField ∷ [])))) (p, now (out .entry)) (q, now (out .exit))) ⌝ }
+    ensures { λ q. ⌜ WithText (now (value .entry)) (λ v. Below (source (now (tree .entry)) (now (text .entry))) (now (pool .entry)) left (word' TK-AS · said' v · parens (commas (node (TypeField ∷ [])))) (p, now (out .entry)) (q, now (out .exit))) ⌝ }
 {
-    let q = word(p, out, words, TK_AS);
-    let q = said(q, out, words, value);
-    fields(q, out, words, tree, text, left)
+    let q = word(p, out, pool, TK_AS);
+    let q = said(q, out, pool, value);
+    fields(q, out, pool, tree, text, left)
 }
 
 // The parameters, unless there are none.
-fn params(p: Pen, out: &mut [u8], words: &[u8], tree: &[u8], text: &[u8], left: usize) -> Pen
-    ensures { λ q. ⌜ Below (source (now (tree .entry)) (now (text .entry))) (now (words .entry)) left (filled (parens (commas (node (TypeParam ∷ []))))) (p, now (out .entry)) (q, now (out .exit)) ⌝ }
+fn params(p: Pen, out: &mut [u8], pool: &[u8], tree: &[u8], text: &[u8], left: usize) -> Pen
+    ensures { λ q. ⌜ Below (source (now (tree .entry)) (now (text .entry))) (now (pool .entry)) left (filled (parens (commas (node (TypeParam ∷ []))))) (p, now (out .entry)) (q, now (out .exit)) ⌝ }
 {
     let r = record::read(tree, p.next);
     if r.kids == 0 {
         return pass(p, tree);
     }
-    let q = word(p, out, words, TK_LP);
-    let q = list(q, out, words, tree, text, left, TYPE_PARAM, true);
-    word(q, out, words, TK_RP)
+    let q = word(p, out, pool, TK_LP);
+    let q = list(q, out, pool, tree, text, left, TYPE_PARAM, true);
+    word(q, out, pool, TK_RP)
 }
 
 // The operators and the default: held in this order, written in the other.
-fn default_first(p: Pen, out: &mut [u8], words: &[u8], tree: &[u8], text: &[u8], left: usize) -> Pen
-    ensures { λ q. ⌜ Below (source (now (tree .entry)) (now (text .entry))) (now (words .entry)) left (operatorsLater) (p, now (out .entry)) (q, now (out .exit)) ⌝ }
+fn default_first(p: Pen, out: &mut [u8], pool: &[u8], tree: &[u8], text: &[u8], left: usize) -> Pen
+    ensures { λ q. ⌜ Below (source (now (tree .entry)) (now (text .entry))) (now (pool .entry)) left (operatorsLater) (p, now (out .entry)) (q, now (out .exit)) ⌝ }
 {
     let mut nothing = [0u8; 0];
     let behind = list(
         p,
         &mut nothing,
-        words,
+        pool,
         tree,
         text,
         left,
@@ -86,7 +86,7 @@ fn default_first(p: Pen, out: &mut [u8], words: &[u8], tree: &[u8], text: &[u8],
             next: behind.next,
         },
         out,
-        words,
+        pool,
         tree,
         text,
         b"DEFAULT",
@@ -99,7 +99,7 @@ fn default_first(p: Pen, out: &mut [u8], words: &[u8], tree: &[u8], text: &[u8],
             next: start,
         },
         out,
-        words,
+        pool,
         tree,
         text,
         left,
@@ -111,41 +111,41 @@ fn default_first(p: Pen, out: &mut [u8], words: &[u8], tree: &[u8], text: &[u8],
 }
 
 // CustomType (113).
-fn custom_type(p: Pen, out: &mut [u8], words: &[u8], tree: &[u8], text: &[u8], left: usize) -> Pen
-    ensures { λ q. ⌜ Below (source (now (tree .entry)) (now (text .entry))) (now (words .entry)) left (shape CustomType) (p, now (out .entry)) (q, now (out .exit)) ⌝ }
+fn custom_type(p: Pen, out: &mut [u8], pool: &[u8], tree: &[u8], text: &[u8], left: usize) -> Pen
+    ensures { λ q. ⌜ Below (source (now (tree .entry)) (now (text .entry))) (now (pool .entry)) left (shape CustomType) (p, now (out .entry)) (q, now (out .exit)) ⌝ }
 {
-    let q = params(p, out, words, tree, text, left);
-    let q = said(q, out, words, b"BASE");
-    let q = name(q, out, words, tree, text);
-    let q = said_clause(q, out, words, tree, text, b"ENCODE");
-    let q = said_clause(q, out, words, tree, text, b"DECODE");
-    default_first(q, out, words, tree, text, left)
+    let q = params(p, out, pool, tree, text, left);
+    let q = said(q, out, pool, b"BASE");
+    let q = name(q, out, pool, tree, text);
+    let q = said_clause(q, out, pool, tree, text, b"ENCODE");
+    let q = said_clause(q, out, pool, tree, text, b"DECODE");
+    default_first(q, out, pool, tree, text, left)
 }
 
 // CreateTypeBody (111 to 113).
 pub fn create_type_body(
     p: Pen,
     out: &mut [u8],
-    words: &[u8],
+    pool: &[u8],
     tree: &[u8],
     text: &[u8],
     left: usize,
 ) -> Pen
-    ensures { λ q. ⌜ Below (source (now (tree .entry)) (now (text .entry))) (now (words .entry)) left (slot (node (Struct ∷ Union ∷ CustomType ∷ []))) (p, now (out .entry)) (q, now (out .exit)) ⌝ }
+    ensures { λ q. ⌜ Below (source (now (tree .entry)) (now (text .entry))) (now (pool .entry)) left (slot (node (Struct ∷ Union ∷ CustomType ∷ []))) (p, now (out .entry)) (q, now (out .exit)) ⌝ }
 {
     let r = record::read(tree, p.next);
     if left == 0 {
-        return run(p, out, words, tree, text);
+        return run(p, out, pool, tree, text);
     }
     let q = pass(p, tree);
     if r.kind == STRUCT {
-        return type_fields(q, out, words, tree, text, left - 1, b"STRUCT");
+        return type_fields(q, out, pool, tree, text, left - 1, b"STRUCT");
     }
     if r.kind == UNION {
-        return type_fields(q, out, words, tree, text, left - 1, b"UNION");
+        return type_fields(q, out, pool, tree, text, left - 1, b"UNION");
     }
     if r.kind == CUSTOM_TYPE {
-        return custom_type(q, out, words, tree, text, left - 1);
+        return custom_type(q, out, pool, tree, text, left - 1);
     }
-    run(p, out, words, tree, text)
+    run(p, out, pool, tree, text)
 }

@@ -69,270 +69,256 @@ const MATERIALIZED: u16 = 1;
 const NOT_MATERIALIZED: u16 = 2;
 
 // Select (80).
-pub fn select(p: Pen, out: &mut [u8], words: &[u8], tree: &[u8], text: &[u8], left: usize) -> Pen
-    ensures { λ q. ⌜ Below (source (now (tree .entry)) (now (text .entry))) (now (words .entry)) left (slot select') (p, now (out .entry)) (q, now (out .exit)) ⌝ }
+pub fn select(p: Pen, out: &mut [u8], pool: &[u8], tree: &[u8], text: &[u8], left: usize) -> Pen
+    ensures { λ q. ⌜ Below (source (now (tree .entry)) (now (text .entry))) (now (pool .entry)) left (slot select') (p, now (out .entry)) (q, now (out .exit)) ⌝ }
 {
     let r = record::read(tree, p.next);
     if (left == 0) | (r.kind != SELECT) {
-        return run(p, out, words, tree, text);
+        return run(p, out, pool, tree, text);
     }
     let q = pass(p, tree);
-    let q = with_clause(q, out, words, tree, text, left - 1);
-    let q = body(q, out, words, tree, text, left - 1);
-    let q = run(q, out, words, tree, text);
-    run(q, out, words, tree, text)
+    let q = with_clause(q, out, pool, tree, text, left - 1);
+    let q = body(q, out, pool, tree, text, left - 1);
+    let q = run(q, out, pool, tree, text);
+    run(q, out, pool, tree, text)
 }
 
 // SelectBody (81).
-pub fn body(p: Pen, out: &mut [u8], words: &[u8], tree: &[u8], text: &[u8], left: usize) -> Pen
-    ensures { λ q. ⌜ Below (source (now (tree .entry)) (now (text .entry))) (now (words .entry)) left (slot (node (SelectBody ∷ []))) (p, now (out .entry)) (q, now (out .exit)) ⌝ }
+pub fn body(p: Pen, out: &mut [u8], pool: &[u8], tree: &[u8], text: &[u8], left: usize) -> Pen
+    ensures { λ q. ⌜ Below (source (now (tree .entry)) (now (text .entry))) (now (pool .entry)) left (slot (node (SelectBody ∷ []))) (p, now (out .entry)) (q, now (out .exit)) ⌝ }
 {
     let r = record::read(tree, p.next);
     if (left == 0) | (r.kind != SELECT_BODY) {
-        return run(p, out, words, tree, text);
+        return run(p, out, pool, tree, text);
     }
     let q = pass(p, tree);
-    let q = one_select(q, out, words, tree, text, left - 1);
-    list(q, out, words, tree, text, left - 1, COMPOUND_SELECT, false)
+    let q = one_select(q, out, pool, tree, text, left - 1);
+    list(q, out, pool, tree, text, left - 1, COMPOUND_SELECT, false)
 }
 
 // CompoundSelect (82).
-pub fn compound(p: Pen, out: &mut [u8], words: &[u8], tree: &[u8], text: &[u8], left: usize) -> Pen
-    ensures { λ q. ⌜ Below (source (now (tree .entry)) (now (text .entry))) (now (words .entry)) left (slot (node (CompoundSelect ∷ []))) (p, now (out .entry)) (q, now (out .exit)) ⌝ }
+pub fn compound(p: Pen, out: &mut [u8], pool: &[u8], tree: &[u8], text: &[u8], left: usize) -> Pen
+    ensures { λ q. ⌜ Below (source (now (tree .entry)) (now (text .entry))) (now (pool .entry)) left (slot (node (CompoundSelect ∷ []))) (p, now (out .entry)) (q, now (out .exit)) ⌝ }
 {
     let r = record::read(tree, p.next);
     if (left == 0) | (r.kind != COMPOUND_SELECT) {
-        return run(p, out, words, tree, text);
+        return run(p, out, pool, tree, text);
     }
     let q = pass(p, tree);
-    let q = run(q, out, words, tree, text);
-    one_select(q, out, words, tree, text, left - 1)
+    let q = run(q, out, pool, tree, text);
+    one_select(q, out, pool, tree, text, left - 1)
 }
 
 // OneSelect (83 and 84).
-pub fn one_select(
-    p: Pen,
-    out: &mut [u8],
-    words: &[u8],
-    tree: &[u8],
-    text: &[u8],
-    left: usize,
-) -> Pen
-    ensures { λ q. ⌜ Below (source (now (tree .entry)) (now (text .entry))) (now (words .entry)) left (slot oneSelect) (p, now (out .entry)) (q, now (out .exit)) ⌝ }
+pub fn one_select(p: Pen, out: &mut [u8], pool: &[u8], tree: &[u8], text: &[u8], left: usize) -> Pen
+    ensures { λ q. ⌜ Below (source (now (tree .entry)) (now (text .entry))) (now (pool .entry)) left (slot oneSelect) (p, now (out .entry)) (q, now (out .exit)) ⌝ }
 {
     let r = record::read(tree, p.next);
     if left == 0 {
-        return run(p, out, words, tree, text);
+        return run(p, out, pool, tree, text);
     }
     let q = pass(p, tree);
     if r.kind == ONE_SELECT {
-        return one(q, out, words, tree, text, left - 1);
+        return one(q, out, pool, tree, text, left - 1);
     }
     if r.kind == VALUES {
-        return values(q, out, words, tree, text);
+        return values(q, out, pool, tree, text);
     }
-    run(p, out, words, tree, text)
+    run(p, out, pool, tree, text)
 }
 
 // OneSelect::Select (83).
-fn one(p: Pen, out: &mut [u8], words: &[u8], tree: &[u8], text: &[u8], left: usize) -> Pen
-    ensures { λ q. ⌜ Below (source (now (tree .entry)) (now (text .entry))) (now (words .entry)) left (shape OneSelect) (p, now (out .entry)) (q, now (out .exit)) ⌝ }
+fn one(p: Pen, out: &mut [u8], pool: &[u8], tree: &[u8], text: &[u8], left: usize) -> Pen
+    ensures { λ q. ⌜ Below (source (now (tree .entry)) (now (text .entry))) (now (pool .entry)) left (shape OneSelect) (p, now (out .entry)) (q, now (out .exit)) ⌝ }
 {
-    let q = word(p, out, words, TK_SELECT);
-    let q = run(q, out, words, tree, text);
-    let q = comma(q, out, words, tree, text);
-    let q = from_given(q, out, words, tree, text, left);
-    filters(q, out, words, tree, text)
+    let q = word(p, out, pool, TK_SELECT);
+    let q = run(q, out, pool, tree, text);
+    let q = comma(q, out, pool, tree, text);
+    let q = from_given(q, out, pool, tree, text, left);
+    filters(q, out, pool, tree, text)
 }
 
 // What stands behind a from clause.
-fn filters(p: Pen, out: &mut [u8], words: &[u8], tree: &[u8], text: &[u8]) -> Pen
-    ensures { λ q. ⌜ Always (source (now (tree .entry)) (now (text .entry))) (now (words .entry)) (filters') (p, now (out .entry)) (q, now (out .exit)) ⌝ }
+fn filters(p: Pen, out: &mut [u8], pool: &[u8], tree: &[u8], text: &[u8]) -> Pen
+    ensures { λ q. ⌜ Always (source (now (tree .entry)) (now (text .entry))) (now (pool .entry)) (filters') (p, now (out .entry)) (q, now (out .exit)) ⌝ }
 {
-    let q = clause(p, out, words, tree, text, TK_WHERE);
-    let q = run(q, out, words, tree, text);
-    word_list(q, out, words, tree, text, TK_WINDOW)
+    let q = clause(p, out, pool, tree, text, TK_WHERE);
+    let q = run(q, out, pool, tree, text);
+    word_list(q, out, pool, tree, text, TK_WINDOW)
 }
 
 // Values (84): nothing where there are no rows.
-fn values(p: Pen, out: &mut [u8], words: &[u8], tree: &[u8], text: &[u8]) -> Pen
-    ensures { λ q. ⌜ Always (source (now (tree .entry)) (now (text .entry))) (now (words .entry)) (shape Values) (p, now (out .entry)) (q, now (out .exit)) ⌝ }
+fn values(p: Pen, out: &mut [u8], pool: &[u8], tree: &[u8], text: &[u8]) -> Pen
+    ensures { λ q. ⌜ Always (source (now (tree .entry)) (now (text .entry))) (now (pool .entry)) (shape Values) (p, now (out .entry)) (q, now (out .exit)) ⌝ }
 {
     let r = record::read(tree, p.next);
     if r.kids == 0 {
         return pass(p, tree);
     }
-    let q = word(p, out, words, TK_VALUES);
-    tuples(q, out, words, tree, text)
+    let q = word(p, out, pool, TK_VALUES);
+    tuples(q, out, pool, tree, text)
 }
 
 // FROM and a from clause, unless that is NONE.
-pub fn from_given(
-    p: Pen,
-    out: &mut [u8],
-    words: &[u8],
-    tree: &[u8],
-    text: &[u8],
-    left: usize,
-) -> Pen
-    ensures { λ q. ⌜ Below (source (now (tree .entry)) (now (text .entry))) (now (words .entry)) left (clause' TK-FROM fromClause) (p, now (out .entry)) (q, now (out .exit)) ⌝ }
+pub fn from_given(p: Pen, out: &mut [u8], pool: &[u8], tree: &[u8], text: &[u8], left: usize) -> Pen
+    ensures { λ q. ⌜ Below (source (now (tree .entry)) (now (text .entry))) (now (pool .entry)) left (clause' TK-FROM fromClause) (p, now (out .entry)) (q, now (out .exit)) ⌝ }
 {
     let r = record::read(tree, p.next);
     if r.kind == NONE {
         return pass(p, tree);
     }
-    let q = word(p, out, words, TK_FROM);
-    from_clause(q, out, words, tree, text, left)
+    let q = word(p, out, pool, TK_FROM);
+    from_clause(q, out, pool, tree, text, left)
 }
 
 // FromClause (85).
 pub fn from_clause(
     p: Pen,
     out: &mut [u8],
-    words: &[u8],
+    pool: &[u8],
     tree: &[u8],
     text: &[u8],
     left: usize,
 ) -> Pen
-    ensures { λ q. ⌜ Below (source (now (tree .entry)) (now (text .entry))) (now (words .entry)) left (slot fromClause) (p, now (out .entry)) (q, now (out .exit)) ⌝ }
+    ensures { λ q. ⌜ Below (source (now (tree .entry)) (now (text .entry))) (now (pool .entry)) left (slot fromClause) (p, now (out .entry)) (q, now (out .exit)) ⌝ }
 {
     let r = record::read(tree, p.next);
     if (left == 0) | (r.kind != FROM_CLAUSE) {
-        return run(p, out, words, tree, text);
+        return run(p, out, pool, tree, text);
     }
     let q = pass(p, tree);
-    let q = table(q, out, words, tree, text, left - 1);
-    list(q, out, words, tree, text, left - 1, JOINED_TABLE, false)
+    let q = table(q, out, pool, tree, text, left - 1);
+    list(q, out, pool, tree, text, left - 1, JOINED_TABLE, false)
 }
 
 // A joined table (86).
-pub fn joined(p: Pen, out: &mut [u8], words: &[u8], tree: &[u8], text: &[u8], left: usize) -> Pen
-    ensures { λ q. ⌜ Below (source (now (tree .entry)) (now (text .entry))) (now (words .entry)) left (slot (node (JoinedTable ∷ []))) (p, now (out .entry)) (q, now (out .exit)) ⌝ }
+pub fn joined(p: Pen, out: &mut [u8], pool: &[u8], tree: &[u8], text: &[u8], left: usize) -> Pen
+    ensures { λ q. ⌜ Below (source (now (tree .entry)) (now (text .entry))) (now (pool .entry)) left (slot (node (JoinedTable ∷ []))) (p, now (out .entry)) (q, now (out .exit)) ⌝ }
 {
     let r = record::read(tree, p.next);
     if (left == 0) | (r.kind != JOINED_TABLE) {
-        return run(p, out, words, tree, text);
+        return run(p, out, pool, tree, text);
     }
     let q = pass(p, tree);
-    let q = run(q, out, words, tree, text);
-    let q = table(q, out, words, tree, text, left - 1);
-    join_constraint(q, out, words, tree, text, left - 1)
+    let q = run(q, out, pool, tree, text);
+    let q = table(q, out, pool, tree, text, left - 1);
+    join_constraint(q, out, pool, tree, text, left - 1)
 }
 
 // SelectTable (87 to 90).
-pub fn table(p: Pen, out: &mut [u8], words: &[u8], tree: &[u8], text: &[u8], left: usize) -> Pen
-    ensures { λ q. ⌜ Below (source (now (tree .entry)) (now (text .entry))) (now (words .entry)) left (slot selectTable) (p, now (out .entry)) (q, now (out .exit)) ⌝ }
+pub fn table(p: Pen, out: &mut [u8], pool: &[u8], tree: &[u8], text: &[u8], left: usize) -> Pen
+    ensures { λ q. ⌜ Below (source (now (tree .entry)) (now (text .entry))) (now (pool .entry)) left (slot selectTable) (p, now (out .entry)) (q, now (out .exit)) ⌝ }
 {
     let r = record::read(tree, p.next);
     if left == 0 {
-        return run(p, out, words, tree, text);
+        return run(p, out, pool, tree, text);
     }
     let q = pass(p, tree);
     if r.kind == TABLE {
-        return table_name(q, out, words, tree, text);
+        return table_name(q, out, pool, tree, text);
     }
     if r.kind == TABLE_CALL {
-        return table_call(q, out, words, tree, text);
+        return table_call(q, out, pool, tree, text);
     }
     if r.kind == TABLE_SELECT {
-        return table_select(q, out, words, tree, text, left - 1);
+        return table_select(q, out, pool, tree, text, left - 1);
     }
     if r.kind == SUB {
-        return sub(q, out, words, tree, text, left - 1);
+        return sub(q, out, pool, tree, text, left - 1);
     }
-    run(p, out, words, tree, text)
+    run(p, out, pool, tree, text)
 }
 
 // SelectTable::Table (87).
-fn table_name(p: Pen, out: &mut [u8], words: &[u8], tree: &[u8], text: &[u8]) -> Pen
-    ensures { λ q. ⌜ Always (source (now (tree .entry)) (now (text .entry))) (now (words .entry)) (shape Table) (p, now (out .entry)) (q, now (out .exit)) ⌝ }
+fn table_name(p: Pen, out: &mut [u8], pool: &[u8], tree: &[u8], text: &[u8]) -> Pen
+    ensures { λ q. ⌜ Always (source (now (tree .entry)) (now (text .entry))) (now (pool .entry)) (shape Table) (p, now (out .entry)) (q, now (out .exit)) ⌝ }
 {
-    let q = run(p, out, words, tree, text);
-    let q = run(q, out, words, tree, text);
-    run(q, out, words, tree, text)
+    let q = run(p, out, pool, tree, text);
+    let q = run(q, out, pool, tree, text);
+    run(q, out, pool, tree, text)
 }
 
 // SelectTable::TableCall (88).
-fn table_call(p: Pen, out: &mut [u8], words: &[u8], tree: &[u8], text: &[u8]) -> Pen
-    ensures { λ q. ⌜ Always (source (now (tree .entry)) (now (text .entry))) (now (words .entry)) (shape TableCall) (p, now (out .entry)) (q, now (out .exit)) ⌝ }
+fn table_call(p: Pen, out: &mut [u8], pool: &[u8], tree: &[u8], text: &[u8]) -> Pen
+    ensures { λ q. ⌜ Always (source (now (tree .entry)) (now (text .entry))) (now (pool .entry)) (shape TableCall) (p, now (out .entry)) (q, now (out .exit)) ⌝ }
 {
-    let q = run(p, out, words, tree, text);
-    let q = in_parens(q, out, words, tree, text);
-    run(q, out, words, tree, text)
+    let q = run(p, out, pool, tree, text);
+    let q = in_parens(q, out, pool, tree, text);
+    run(q, out, pool, tree, text)
 }
 
 // SelectTable::Select (89).
-fn table_select(p: Pen, out: &mut [u8], words: &[u8], tree: &[u8], text: &[u8], left: usize) -> Pen
-    ensures { λ q. ⌜ Below (source (now (tree .entry)) (now (text .entry))) (now (words .entry)) left (shape TableSelect) (p, now (out .entry)) (q, now (out .exit)) ⌝ }
+fn table_select(p: Pen, out: &mut [u8], pool: &[u8], tree: &[u8], text: &[u8], left: usize) -> Pen
+    ensures { λ q. ⌜ Below (source (now (tree .entry)) (now (text .entry))) (now (pool .entry)) left (shape TableSelect) (p, now (out .entry)) (q, now (out .exit)) ⌝ }
 {
-    let q = word(p, out, words, TK_LP);
-    let q = select(q, out, words, tree, text, left);
-    let q = word(q, out, words, TK_RP);
-    run(q, out, words, tree, text)
+    let q = word(p, out, pool, TK_LP);
+    let q = select(q, out, pool, tree, text, left);
+    let q = word(q, out, pool, TK_RP);
+    run(q, out, pool, tree, text)
 }
 
 // SelectTable::Sub (90).
-fn sub(p: Pen, out: &mut [u8], words: &[u8], tree: &[u8], text: &[u8], left: usize) -> Pen
-    ensures { λ q. ⌜ Below (source (now (tree .entry)) (now (text .entry))) (now (words .entry)) left (shape Sub) (p, now (out .entry)) (q, now (out .exit)) ⌝ }
+fn sub(p: Pen, out: &mut [u8], pool: &[u8], tree: &[u8], text: &[u8], left: usize) -> Pen
+    ensures { λ q. ⌜ Below (source (now (tree .entry)) (now (text .entry))) (now (pool .entry)) left (shape Sub) (p, now (out .entry)) (q, now (out .exit)) ⌝ }
 {
-    let q = word(p, out, words, TK_LP);
-    let q = from_clause(q, out, words, tree, text, left);
-    let q = word(q, out, words, TK_RP);
-    run(q, out, words, tree, text)
+    let q = word(p, out, pool, TK_LP);
+    let q = from_clause(q, out, pool, tree, text, left);
+    let q = word(q, out, pool, TK_RP);
+    run(q, out, pool, tree, text)
 }
 
 // With (110).
 pub fn with_clause(
     p: Pen,
     out: &mut [u8],
-    words: &[u8],
+    pool: &[u8],
     tree: &[u8],
     text: &[u8],
     left: usize,
 ) -> Pen
-    ensures { λ q. ⌜ Below (source (now (tree .entry)) (now (text .entry))) (now (words .entry)) left (slot with) (p, now (out .entry)) (q, now (out .exit)) ⌝ }
+    ensures { λ q. ⌜ Below (source (now (tree .entry)) (now (text .entry))) (now (pool .entry)) left (slot with) (p, now (out .entry)) (q, now (out .exit)) ⌝ }
 {
     let r = record::read(tree, p.next);
     if (left == 0) | (r.kind != WITH) {
-        return run(p, out, words, tree, text);
+        return run(p, out, pool, tree, text);
     }
     let q = pass(p, tree);
-    let q = run(q, out, words, tree, text);
-    list(q, out, words, tree, text, left - 1, COMMON_TABLE_EXPR, true)
+    let q = run(q, out, pool, tree, text);
+    list(q, out, pool, tree, text, left - 1, COMMON_TABLE_EXPR, true)
 }
 
 // CommonTableExpr (106).
-pub fn cte(p: Pen, out: &mut [u8], words: &[u8], tree: &[u8], text: &[u8], left: usize) -> Pen
-    ensures { λ q. ⌜ Below (source (now (tree .entry)) (now (text .entry))) (now (words .entry)) left (slot (node (CommonTableExpr ∷ []))) (p, now (out .entry)) (q, now (out .exit)) ⌝ }
+pub fn cte(p: Pen, out: &mut [u8], pool: &[u8], tree: &[u8], text: &[u8], left: usize) -> Pen
+    ensures { λ q. ⌜ Below (source (now (tree .entry)) (now (text .entry))) (now (pool .entry)) left (slot (node (CommonTableExpr ∷ []))) (p, now (out .entry)) (q, now (out .exit)) ⌝ }
 {
     let r = record::read(tree, p.next);
     if (left == 0) | (r.kind != COMMON_TABLE_EXPR) {
-        return run(p, out, words, tree, text);
+        return run(p, out, pool, tree, text);
     }
     let q = pass(p, tree);
-    let q = run(q, out, words, tree, text);
-    let q = columns(q, out, words, tree, text);
-    let q = word(q, out, words, TK_AS);
-    cte_body(q, out, words, tree, text, left - 1, r.flags)
+    let q = run(q, out, pool, tree, text);
+    let q = columns(q, out, pool, tree, text);
+    let q = word(q, out, pool, TK_AS);
+    cte_body(q, out, pool, tree, text, left - 1, r.flags)
 }
 
 // MATERIALIZED where the flags say so.
-fn materialized(p: Pen, out: &mut [u8], words: &[u8], flags: u16) -> Pen
-    ensures { λ q. ⌜ IfFlags flags isMaterialized (now (words .entry)) (p, now (out .entry)) (q, now (out .exit)) ⌝ }
+fn materialized(p: Pen, out: &mut [u8], pool: &[u8], flags: u16) -> Pen
+    ensures { λ q. ⌜ IfFlags flags isMaterialized (now (pool .entry)) (p, now (out .entry)) (q, now (out .exit)) ⌝ }
 {
     if flags == MATERIALIZED {
-        return word(p, out, words, TK_MATERIALIZED);
+        return word(p, out, pool, TK_MATERIALIZED);
     }
     p
 }
 
 // NOT MATERIALIZED where the flags say so.
-fn not_materialized(p: Pen, out: &mut [u8], words: &[u8], flags: u16) -> Pen
-    ensures { λ q. ⌜ IfFlags flags isNotMaterialized (now (words .entry)) (p, now (out .entry)) (q, now (out .exit)) ⌝ }
+fn not_materialized(p: Pen, out: &mut [u8], pool: &[u8], flags: u16) -> Pen
+    ensures { λ q. ⌜ IfFlags flags isNotMaterialized (now (pool .entry)) (p, now (out .entry)) (q, now (out .exit)) ⌝ }
 {
     if flags == NOT_MATERIALIZED {
-        let q = word(p, out, words, TK_NOT);
-        return word(q, out, words, TK_MATERIALIZED);
+        let q = word(p, out, pool, TK_NOT);
+        return word(q, out, pool, TK_MATERIALIZED);
     }
     p
 }
@@ -341,71 +327,71 @@ fn not_materialized(p: Pen, out: &mut [u8], words: &[u8], flags: u16) -> Pen
 fn cte_body(
     p: Pen,
     out: &mut [u8],
-    words: &[u8],
+    pool: &[u8],
     tree: &[u8],
     text: &[u8],
     left: usize,
     flags: u16,
 ) -> Pen
-    ensures { λ q. ⌜ ((r : Record') → flags ≡ r .flags → Writes (source (now (tree .entry)) (now (text .entry))) (now (words .entry)) left r cteBody (p, now (out .entry)) (q, now (out .exit))) ⌝ }
+    ensures { λ q. ⌜ ((r : Record') → flags ≡ r .flags → Writes (source (now (tree .entry)) (now (text .entry))) (now (pool .entry)) left r cteBody (p, now (out .entry)) (q, now (out .exit))) ⌝ }
 {
-    let q = materialized(p, out, words, flags);
-    let q = not_materialized(q, out, words, flags);
-    let q = word(q, out, words, TK_LP);
-    let q = select(q, out, words, tree, text, left);
-    word(q, out, words, TK_RP)
+    let q = materialized(p, out, pool, flags);
+    let q = not_materialized(q, out, pool, flags);
+    let q = word(q, out, pool, TK_LP);
+    let q = select(q, out, pool, tree, text, left);
+    word(q, out, pool, TK_RP)
 }
 
 // The next record, a clause of this kind, if such clauses stand in lists.
 fn element(
     p: Pen,
     out: &mut [u8],
-    words: &[u8],
+    pool: &[u8],
     tree: &[u8],
     text: &[u8],
     left: usize,
     kind: u16,
 ) -> Pen
-    ensures { λ q. ⌜ Below (source (now (tree .entry)) (now (text .entry))) (now (words .entry)) left (slot (node (held kind))) (p, now (out .entry)) (q, now (out .exit)) ⌝ }
+    ensures { λ q. ⌜ Below (source (now (tree .entry)) (now (text .entry))) (now (pool .entry)) left (slot (node (held kind))) (p, now (out .entry)) (q, now (out .exit)) ⌝ }
 {
     if kind == COLUMN_DEFINITION {
-        return column_definition(p, out, words, tree, text, left);
+        return column_definition(p, out, pool, tree, text, left);
     }
     if kind == NAMED_TABLE_CONSTRAINT {
-        return named_table_constraint(p, out, words, tree, text, left);
+        return named_table_constraint(p, out, pool, tree, text, left);
     }
     if kind == TYPE_FIELD {
-        return type_field(p, out, words, tree, text, left);
+        return type_field(p, out, pool, tree, text, left);
     }
     if kind == TYPE_PARAM {
-        return type_param(p, out, words, tree, text, left);
+        return type_param(p, out, pool, tree, text, left);
     }
     if kind == OPERATOR_CLAUSE {
-        return operator_clause(p, out, words, tree, text, left);
+        return operator_clause(p, out, pool, tree, text, left);
     }
     if kind == DOMAIN_CONSTRAINT {
-        return domain_constraint(p, out, words, tree, text, left);
+        return domain_constraint(p, out, pool, tree, text, left);
     }
     if kind == PAIR {
-        return pair(p, out, words, tree, text, left);
+        return pair(p, out, pool, tree, text, left);
     }
     if kind == COMMON_TABLE_EXPR {
-        return cte(p, out, words, tree, text, left);
+        return cte(p, out, pool, tree, text, left);
     }
     if kind == COMPOUND_SELECT {
-        return compound(p, out, words, tree, text, left);
+        return compound(p, out, pool, tree, text, left);
     }
     if kind == JOINED_TABLE {
-        return joined(p, out, words, tree, text, left);
+        return joined(p, out, pool, tree, text, left);
     }
-    run(p, out, words, tree, text)
+    run(p, out, pool, tree, text)
 }
 
 // So many clauses of this kind, one behind the other, with commas between them or not.
 fn elements(
     p: Pen,
     out: &mut [u8],
-    words: &[u8],
+    pool: &[u8],
     tree: &[u8],
     text: &[u8],
     left: usize,
@@ -413,14 +399,14 @@ fn elements(
     n: u16,
     commas: bool,
 ) -> Pen
-    ensures { λ q. ⌜ RowOf (source (now (tree .entry)) (now (text .entry))) (now (words .entry)) left (node (held kind)) commas n (p, now (out .entry)) (q, now (out .exit)) ⌝ }
+    ensures { λ q. ⌜ RowOf (source (now (tree .entry)) (now (text .entry))) (now (pool .entry)) left (node (held kind)) commas n (p, now (out .entry)) (q, now (out .exit)) ⌝ }
 {
     let mut q = p;
     let mut rest = n;
     let mut lead = false;
     while 0 < rest {
-        q = comma_if(q, out, words, lead);
-        q = element(q, out, words, tree, text, left, kind);
+        q = comma_if(q, out, pool, lead);
+        q = element(q, out, pool, tree, text, left, kind);
         lead = commas;
         rest -= 1;
     }
@@ -431,19 +417,19 @@ fn elements(
 pub fn list(
     p: Pen,
     out: &mut [u8],
-    words: &[u8],
+    pool: &[u8],
     tree: &[u8],
     text: &[u8],
     left: usize,
     kind: u16,
     commas: bool,
 ) -> Pen
-    ensures { λ q. ⌜ Below (source (now (tree .entry)) (now (text .entry))) (now (words .entry)) left (cond commas (commas' (node (held kind))) (row' (node (held kind)))) (p, now (out .entry)) (q, now (out .exit)) ⌝ }
+    ensures { λ q. ⌜ Below (source (now (tree .entry)) (now (text .entry))) (now (pool .entry)) left (cond commas (commas' (node (held kind))) (row' (node (held kind)))) (p, now (out .entry)) (q, now (out .exit)) ⌝ }
 {
     let r = record::read(tree, p.next);
     let q = pass(p, tree);
     if r.kind != LIST {
         return q;
     }
-    elements(q, out, words, tree, text, left, kind, r.kids, commas)
+    elements(q, out, pool, tree, text, left, kind, r.kids, commas)
 }

@@ -31,124 +31,115 @@ use spelling::token::TK_RP;
 use spelling::token::TK_TO;
 
 // RenameTo (93).
-fn rename_to(p: Pen, out: &mut [u8], words: &[u8], tree: &[u8], text: &[u8]) -> Pen
-    ensures { λ q. ⌜ Always (source (now (tree .entry)) (now (text .entry))) (now (words .entry)) (shape RenameTo) (p, now (out .entry)) (q, now (out .exit)) ⌝ }
+fn rename_to(p: Pen, out: &mut [u8], pool: &[u8], tree: &[u8], text: &[u8]) -> Pen
+    ensures { λ q. ⌜ Always (source (now (tree .entry)) (now (text .entry))) (now (pool .entry)) (shape RenameTo) (p, now (out .entry)) (q, now (out .exit)) ⌝ }
 {
-    let q = word(p, out, words, TK_RENAME);
-    let q = word(q, out, words, TK_TO);
-    run(q, out, words, tree, text)
+    let q = word(p, out, pool, TK_RENAME);
+    let q = word(q, out, pool, TK_TO);
+    run(q, out, pool, tree, text)
 }
 
 // AddColumn (94).
-fn add_column(p: Pen, out: &mut [u8], words: &[u8], tree: &[u8], text: &[u8], left: usize) -> Pen
-    ensures { λ q. ⌜ Below (source (now (tree .entry)) (now (text .entry))) (now (words .entry)) left (shape AddColumn) (p, now (out .entry)) (q, now (out .exit)) ⌝ }
+fn add_column(p: Pen, out: &mut [u8], pool: &[u8], tree: &[u8], text: &[u8], left: usize) -> Pen
+    ensures { λ q. ⌜ Below (source (now (tree .entry)) (now (text .entry))) (now (pool .entry)) left (shape AddColumn) (p, now (out .entry)) (q, now (out .exit)) ⌝ }
 {
-    let q = word(p, out, words, TK_ADD);
-    let q = word(q, out, words, TK_COLUMNKW);
-    column_definition(q, out, words, tree, text, left)
+    let q = word(p, out, pool, TK_ADD);
+    let q = word(q, out, pool, TK_COLUMNKW);
+    column_definition(q, out, pool, tree, text, left)
 }
 
 // AlterColumn (95).
-fn alter_column(p: Pen, out: &mut [u8], words: &[u8], tree: &[u8], text: &[u8], left: usize) -> Pen
-    ensures { λ q. ⌜ Below (source (now (tree .entry)) (now (text .entry))) (now (words .entry)) left (shape AlterColumn) (p, now (out .entry)) (q, now (out .exit)) ⌝ }
+fn alter_column(p: Pen, out: &mut [u8], pool: &[u8], tree: &[u8], text: &[u8], left: usize) -> Pen
+    ensures { λ q. ⌜ Below (source (now (tree .entry)) (now (text .entry))) (now (pool .entry)) left (shape AlterColumn) (p, now (out .entry)) (q, now (out .exit)) ⌝ }
 {
-    let q = word(p, out, words, TK_ALTER);
-    let q = word(q, out, words, TK_COLUMNKW);
-    let q = run(q, out, words, tree, text);
-    let q = word(q, out, words, TK_TO);
-    column_definition(q, out, words, tree, text, left)
+    let q = word(p, out, pool, TK_ALTER);
+    let q = word(q, out, pool, TK_COLUMNKW);
+    let q = run(q, out, pool, tree, text);
+    let q = word(q, out, pool, TK_TO);
+    column_definition(q, out, pool, tree, text, left)
 }
 
 // RenameColumn (96).
-fn rename_column(p: Pen, out: &mut [u8], words: &[u8], tree: &[u8], text: &[u8]) -> Pen
-    ensures { λ q. ⌜ Always (source (now (tree .entry)) (now (text .entry))) (now (words .entry)) (shape RenameColumn) (p, now (out .entry)) (q, now (out .exit)) ⌝ }
+fn rename_column(p: Pen, out: &mut [u8], pool: &[u8], tree: &[u8], text: &[u8]) -> Pen
+    ensures { λ q. ⌜ Always (source (now (tree .entry)) (now (text .entry))) (now (pool .entry)) (shape RenameColumn) (p, now (out .entry)) (q, now (out .exit)) ⌝ }
 {
-    let q = word(p, out, words, TK_RENAME);
-    let q = word(q, out, words, TK_COLUMNKW);
-    let q = run(q, out, words, tree, text);
-    let q = word(q, out, words, TK_TO);
-    run(q, out, words, tree, text)
+    let q = word(p, out, pool, TK_RENAME);
+    let q = word(q, out, pool, TK_COLUMNKW);
+    let q = run(q, out, pool, tree, text);
+    let q = word(q, out, pool, TK_TO);
+    run(q, out, pool, tree, text)
 }
 
 // DropColumn (97).
-fn drop_column(p: Pen, out: &mut [u8], words: &[u8], tree: &[u8], text: &[u8]) -> Pen
-    ensures { λ q. ⌜ Always (source (now (tree .entry)) (now (text .entry))) (now (words .entry)) (shape DropColumn) (p, now (out .entry)) (q, now (out .exit)) ⌝ }
+fn drop_column(p: Pen, out: &mut [u8], pool: &[u8], tree: &[u8], text: &[u8]) -> Pen
+    ensures { λ q. ⌜ Always (source (now (tree .entry)) (now (text .entry))) (now (pool .entry)) (shape DropColumn) (p, now (out .entry)) (q, now (out .exit)) ⌝ }
 {
-    let q = word(p, out, words, TK_DROP);
-    let q = word(q, out, words, TK_COLUMNKW);
-    run(q, out, words, tree, text)
+    let q = word(p, out, pool, TK_DROP);
+    let q = word(q, out, pool, TK_COLUMNKW);
+    run(q, out, pool, tree, text)
 }
 
 // AlterTableBody (93 to 97).
 pub fn alter_table_body(
     p: Pen,
     out: &mut [u8],
-    words: &[u8],
+    pool: &[u8],
     tree: &[u8],
     text: &[u8],
     left: usize,
 ) -> Pen
-    ensures { λ q. ⌜ Below (source (now (tree .entry)) (now (text .entry))) (now (words .entry)) left (slot (node (from RenameTo 5))) (p, now (out .entry)) (q, now (out .exit)) ⌝ }
+    ensures { λ q. ⌜ Below (source (now (tree .entry)) (now (text .entry))) (now (pool .entry)) left (slot (node (from RenameTo 5))) (p, now (out .entry)) (q, now (out .exit)) ⌝ }
 {
     let r = record::read(tree, p.next);
     if left == 0 {
-        return run(p, out, words, tree, text);
+        return run(p, out, pool, tree, text);
     }
     let q = pass(p, tree);
     if r.kind == RENAME_TO {
-        return rename_to(q, out, words, tree, text);
+        return rename_to(q, out, pool, tree, text);
     }
     if r.kind == ADD_COLUMN {
-        return add_column(q, out, words, tree, text, left - 1);
+        return add_column(q, out, pool, tree, text, left - 1);
     }
     if r.kind == ALTER_COLUMN {
-        return alter_column(q, out, words, tree, text, left - 1);
+        return alter_column(q, out, pool, tree, text, left - 1);
     }
     if r.kind == RENAME_COLUMN {
-        return rename_column(q, out, words, tree, text);
+        return rename_column(q, out, pool, tree, text);
     }
     if r.kind == DROP_COLUMN {
-        return drop_column(q, out, words, tree, text);
+        return drop_column(q, out, pool, tree, text);
     }
-    run(p, out, words, tree, text)
+    run(p, out, pool, tree, text)
 }
 
 // A comma and the constraints, unless there are none.
-fn constraints(p: Pen, out: &mut [u8], words: &[u8], tree: &[u8], text: &[u8], left: usize) -> Pen
-    ensures { λ q. ⌜ Below (source (now (tree .entry)) (now (text .entry))) (now (words .entry)) left (filled (word' TK-COMMA · commas (node (NamedTableConstraint ∷ [])))) (p, now (out .entry)) (q, now (out .exit)) ⌝ }
+fn constraints(p: Pen, out: &mut [u8], pool: &[u8], tree: &[u8], text: &[u8], left: usize) -> Pen
+    ensures { λ q. ⌜ Below (source (now (tree .entry)) (now (text .entry))) (now (pool .entry)) left (filled (word' TK-COMMA · commas (node (NamedTableConstraint ∷ [])))) (p, now (out .entry)) (q, now (out .exit)) ⌝ }
 {
     let r = record::read(tree, p.next);
     if r.kids == 0 {
         return pass(p, tree);
     }
-    let q = word(p, out, words, TK_COMMA);
-    list(
-        q,
-        out,
-        words,
-        tree,
-        text,
-        left,
-        NAMED_TABLE_CONSTRAINT,
-        true,
-    )
+    let q = word(p, out, pool, TK_COMMA);
+    list(q, out, pool, tree, text, left, NAMED_TABLE_CONSTRAINT, true)
 }
 
 // ColumnsAndConstraints (98).
 pub fn columns_and_constraints(
     p: Pen,
     out: &mut [u8],
-    words: &[u8],
+    pool: &[u8],
     tree: &[u8],
     text: &[u8],
     left: usize,
 ) -> Pen
-    ensures { λ q. ⌜ Below (source (now (tree .entry)) (now (text .entry))) (now (words .entry)) left (shape ColumnsAndConstraints) (p, now (out .entry)) (q, now (out .exit)) ⌝ }
+    ensures { λ q. ⌜ Below (source (now (tree .entry)) (now (text .entry))) (now (pool .entry)) left (shape ColumnsAndConstraints) (p, now (out .entry)) (q, now (out .exit)) ⌝ }
 {
-    let q = word(p, out, words, TK_LP);
-    let q = list(q, out, words, tree, text, left, COLUMN_DEFINITION, true);
-    let q = constraints(q, out, words, tree, text, left);
-    let q = word(q, out, words, TK_RP);
-    let q = rowid(q, out, words, tree, text);
-    name(q, out, words, tree, text)
+    let q = word(p, out, pool, TK_LP);
+    let q = list(q, out, pool, tree, text, left, COLUMN_DEFINITION, true);
+    let q = constraints(q, out, pool, tree, text, left);
+    let q = word(q, out, pool, TK_RP);
+    let q = rowid(q, out, pool, tree, text);
+    name(q, out, pool, tree, text)
 }

@@ -19,38 +19,38 @@ use spelling::token::TK_UPDATE;
 use spelling::token::TK_WHERE;
 
 // UpsertDo::Set (108).
-fn upsert_set(p: Pen, out: &mut [u8], words: &[u8], tree: &[u8], text: &[u8]) -> Pen
-    ensures { λ q. ⌜ Always (source (now (tree .entry)) (now (text .entry))) (now (words .entry)) (shape UpsertSet) (p, now (out .entry)) (q, now (out .exit)) ⌝ }
+fn upsert_set(p: Pen, out: &mut [u8], pool: &[u8], tree: &[u8], text: &[u8]) -> Pen
+    ensures { λ q. ⌜ Always (source (now (tree .entry)) (now (text .entry))) (now (pool .entry)) (shape UpsertSet) (p, now (out .entry)) (q, now (out .exit)) ⌝ }
 {
-    let q = word(p, out, words, TK_DO);
-    let q = word(q, out, words, TK_UPDATE);
-    let q = word(q, out, words, TK_SET);
-    let q = comma(q, out, words, tree, text);
-    clause(q, out, words, tree, text, TK_WHERE)
+    let q = word(p, out, pool, TK_DO);
+    let q = word(q, out, pool, TK_UPDATE);
+    let q = word(q, out, pool, TK_SET);
+    let q = comma(q, out, pool, tree, text);
+    clause(q, out, pool, tree, text, TK_WHERE)
 }
 
 // UpsertDo::Nothing (109).
-fn upsert_nothing(p: Pen, out: &mut [u8], words: &[u8]) -> Pen
-    ensures { λ q. ⌜ Anywhere (now (words .entry)) (shape UpsertNothing) (p, now (out .entry)) (q, now (out .exit)) ⌝ }
+fn upsert_nothing(p: Pen, out: &mut [u8], pool: &[u8]) -> Pen
+    ensures { λ q. ⌜ Anywhere (now (pool .entry)) (shape UpsertNothing) (p, now (out .entry)) (q, now (out .exit)) ⌝ }
 {
-    let q = word(p, out, words, TK_DO);
-    word(q, out, words, TK_NOTHING)
+    let q = word(p, out, pool, TK_DO);
+    word(q, out, pool, TK_NOTHING)
 }
 
 // UpsertDo (108 and 109).
-pub fn upsert_do(p: Pen, out: &mut [u8], words: &[u8], tree: &[u8], text: &[u8], left: usize) -> Pen
-    ensures { λ q. ⌜ Below (source (now (tree .entry)) (now (text .entry))) (now (words .entry)) left (slot (node (UpsertSet ∷ UpsertNothing ∷ []))) (p, now (out .entry)) (q, now (out .exit)) ⌝ }
+pub fn upsert_do(p: Pen, out: &mut [u8], pool: &[u8], tree: &[u8], text: &[u8], left: usize) -> Pen
+    ensures { λ q. ⌜ Below (source (now (tree .entry)) (now (text .entry))) (now (pool .entry)) left (slot (node (UpsertSet ∷ UpsertNothing ∷ []))) (p, now (out .entry)) (q, now (out .exit)) ⌝ }
 {
     let r = record::read(tree, p.next);
     if left == 0 {
-        return run(p, out, words, tree, text);
+        return run(p, out, pool, tree, text);
     }
     let q = pass(p, tree);
     if r.kind == UPSERT_SET {
-        return upsert_set(q, out, words, tree, text);
+        return upsert_set(q, out, pool, tree, text);
     }
     if r.kind == UPSERT_NOTHING {
-        return upsert_nothing(q, out, words);
+        return upsert_nothing(q, out, pool);
     }
-    run(p, out, words, tree, text)
+    run(p, out, pool, tree, text)
 }

@@ -82,50 +82,50 @@ const JSON: u16 = 3;
 const DEEPEST: usize = 64;
 
 // EXPLAIN where the flags say so.
-fn explain(p: Pen, out: &mut [u8], words: &[u8], flags: u16) -> Pen
-    ensures { λ q. ⌜ IfFlags flags explaining (now (words .entry)) (p, now (out .entry)) (q, now (out .exit)) ⌝ }
+fn explain(p: Pen, out: &mut [u8], pool: &[u8], flags: u16) -> Pen
+    ensures { λ q. ⌜ IfFlags flags explaining (now (pool .entry)) (p, now (out .entry)) (q, now (out .exit)) ⌝ }
 {
     if flags == EXPLAIN {
-        return word(p, out, words, TK_EXPLAIN);
+        return word(p, out, pool, TK_EXPLAIN);
     }
     p
 }
 
 // EXPLAIN QUERY PLAN.
-fn query_plan(p: Pen, out: &mut [u8], words: &[u8]) -> Pen
-    ensures { λ q. ⌜ Anywhere (now (words .entry)) plan (p, now (out .entry)) (q, now (out .exit)) ⌝ }
+fn query_plan(p: Pen, out: &mut [u8], pool: &[u8]) -> Pen
+    ensures { λ q. ⌜ Anywhere (now (pool .entry)) plan (p, now (out .entry)) (q, now (out .exit)) ⌝ }
 {
-    let q = word(p, out, words, TK_EXPLAIN);
-    let q = word(q, out, words, TK_QUERY);
-    word(q, out, words, TK_PLAN)
+    let q = word(p, out, pool, TK_EXPLAIN);
+    let q = word(q, out, pool, TK_QUERY);
+    word(q, out, pool, TK_PLAN)
 }
 
 // EXPLAIN QUERY PLAN where the flags say so.
-fn explain_query_plan(p: Pen, out: &mut [u8], words: &[u8], flags: u16) -> Pen
-    ensures { λ q. ⌜ IfFlags flags planning (now (words .entry)) (p, now (out .entry)) (q, now (out .exit)) ⌝ }
+fn explain_query_plan(p: Pen, out: &mut [u8], pool: &[u8], flags: u16) -> Pen
+    ensures { λ q. ⌜ IfFlags flags planning (now (pool .entry)) (p, now (out .entry)) (q, now (out .exit)) ⌝ }
 {
     if flags == QUERY_PLAN {
-        return query_plan(p, out, words);
+        return query_plan(p, out, pool);
     }
     p
 }
 
 // FORMAT = JSON.
-fn format_json(p: Pen, out: &mut [u8], words: &[u8]) -> Pen
-    ensures { λ q. ⌜ Anywhere (now (words .entry)) formatJson (p, now (out .entry)) (q, now (out .exit)) ⌝ }
+fn format_json(p: Pen, out: &mut [u8], pool: &[u8]) -> Pen
+    ensures { λ q. ⌜ Anywhere (now (pool .entry)) formatJson (p, now (out .entry)) (q, now (out .exit)) ⌝ }
 {
-    let q = said(p, out, words, b"FORMAT");
-    let q = word(q, out, words, TK_EQ);
-    said(q, out, words, b"JSON")
+    let q = said(p, out, pool, b"FORMAT");
+    let q = word(q, out, pool, TK_EQ);
+    said(q, out, pool, b"JSON")
 }
 
 // The same with Json where the flags say so.
-fn explain_json(p: Pen, out: &mut [u8], words: &[u8], flags: u16) -> Pen
-    ensures { λ q. ⌜ IfFlags flags planningJson (now (words .entry)) (p, now (out .entry)) (q, now (out .exit)) ⌝ }
+fn explain_json(p: Pen, out: &mut [u8], pool: &[u8], flags: u16) -> Pen
+    ensures { λ q. ⌜ IfFlags flags planningJson (now (pool .entry)) (p, now (out .entry)) (q, now (out .exit)) ⌝ }
 {
     if flags == JSON {
-        let q = query_plan(p, out, words);
-        return format_json(q, out, words);
+        let q = query_plan(p, out, pool);
+        return format_json(q, out, pool);
     }
     p
 }
@@ -134,158 +134,158 @@ fn explain_json(p: Pen, out: &mut [u8], words: &[u8], flags: u16) -> Pen
 fn cmd(
     p: Pen,
     out: &mut [u8],
-    words: &[u8],
+    pool: &[u8],
     tree: &[u8],
     text: &[u8],
     left: usize,
     flags: u16,
 ) -> Pen
-    ensures { λ q. ⌜ ((r : Record') → flags ≡ r .flags → Writes (source (now (tree .entry)) (now (text .entry))) (now (words .entry)) left r (shape Cmd) (p, now (out .entry)) (q, now (out .exit))) ⌝ }
+    ensures { λ q. ⌜ ((r : Record') → flags ≡ r .flags → Writes (source (now (tree .entry)) (now (text .entry))) (now (pool .entry)) left r (shape Cmd) (p, now (out .entry)) (q, now (out .exit))) ⌝ }
 {
-    let q = explain(p, out, words, flags);
-    let q = explain_query_plan(q, out, words, flags);
-    let q = explain_json(q, out, words, flags);
-    let q = stmt(q, out, words, tree, text, left);
-    word(q, out, words, TK_SEMI)
+    let q = explain(p, out, pool, flags);
+    let q = explain_query_plan(q, out, pool, flags);
+    let q = explain_json(q, out, pool, flags);
+    let q = stmt(q, out, pool, tree, text, left);
+    word(q, out, pool, TK_SEMI)
 }
 
 // The clauses from Select to AsSelect (80 to 99).
 fn clause_to_as_select(
     p: Pen,
     out: &mut [u8],
-    words: &[u8],
+    pool: &[u8],
     tree: &[u8],
     text: &[u8],
     left: usize,
 ) -> Pen
-    ensures { λ q. ⌜ Below (source (now (tree .entry)) (now (text .entry))) (now (words .entry)) left (slot (node (from Select 20))) (p, now (out .entry)) (q, now (out .exit)) ⌝ }
+    ensures { λ q. ⌜ Below (source (now (tree .entry)) (now (text .entry))) (now (pool .entry)) left (slot (node (from Select 20))) (p, now (out .entry)) (q, now (out .exit)) ⌝ }
 {
     let r = record::read(tree, p.next);
     if r.kind < SELECT {
-        return run(p, out, words, tree, text);
+        return run(p, out, pool, tree, text);
     }
     if r.kind <= SELECT {
-        return select(p, out, words, tree, text, left);
+        return select(p, out, pool, tree, text, left);
     }
     if r.kind <= SELECT_BODY {
-        return body(p, out, words, tree, text, left);
+        return body(p, out, pool, tree, text, left);
     }
     if r.kind <= COMPOUND_SELECT {
-        return compound(p, out, words, tree, text, left);
+        return compound(p, out, pool, tree, text, left);
     }
     if r.kind <= VALUES {
-        return one_select(p, out, words, tree, text, left);
+        return one_select(p, out, pool, tree, text, left);
     }
     if r.kind <= FROM_CLAUSE {
-        return from_clause(p, out, words, tree, text, left);
+        return from_clause(p, out, pool, tree, text, left);
     }
     if r.kind <= JOINED_TABLE {
-        return joined(p, out, words, tree, text, left);
+        return joined(p, out, pool, tree, text, left);
     }
     if r.kind <= SUB {
-        return table(p, out, words, tree, text, left);
+        return table(p, out, pool, tree, text, left);
     }
     if r.kind <= USING {
-        return join_constraint(p, out, words, tree, text, left);
+        return join_constraint(p, out, pool, tree, text, left);
     }
     if r.kind <= DROP_COLUMN {
-        return alter_table_body(p, out, words, tree, text, left);
+        return alter_table_body(p, out, pool, tree, text, left);
     }
     if r.kind <= AS_SELECT {
-        return create_table_body(p, out, words, tree, text, left);
+        return create_table_body(p, out, pool, tree, text, left);
     }
-    run(p, out, words, tree, text)
+    run(p, out, pool, tree, text)
 }
 
 // The clauses from ColumnDefinition to a named table constraint (100 to 118, and 120).
 fn clause_to_named_table_constraint(
     p: Pen,
     out: &mut [u8],
-    words: &[u8],
+    pool: &[u8],
     tree: &[u8],
     text: &[u8],
     left: usize,
 ) -> Pen
-    ensures { λ q. ⌜ Below (source (now (tree .entry)) (now (text .entry))) (now (words .entry)) left (slot (node lateClauses)) (p, now (out .entry)) (q, now (out .exit)) ⌝ }
+    ensures { λ q. ⌜ Below (source (now (tree .entry)) (now (text .entry))) (now (pool .entry)) left (slot (node lateClauses)) (p, now (out .entry)) (q, now (out .exit)) ⌝ }
 {
     let r = record::read(tree, p.next);
     if r.kind < COLUMN_DEFINITION {
-        return run(p, out, words, tree, text);
+        return run(p, out, pool, tree, text);
     }
     if r.kind <= COLUMN_DEFINITION {
-        return column_definition(p, out, words, tree, text, left);
+        return column_definition(p, out, pool, tree, text, left);
     }
     if r.kind <= FOREIGN_KEY {
-        return table_constraint(p, out, words, tree, text, left);
+        return table_constraint(p, out, pool, tree, text, left);
     }
     if r.kind <= FOREIGN_KEY_CLAUSE {
-        return foreign_key_clause(p, out, words, tree, text, left);
+        return foreign_key_clause(p, out, pool, tree, text, left);
     }
     if r.kind <= COMMON_TABLE_EXPR {
-        return cte(p, out, words, tree, text, left);
+        return cte(p, out, pool, tree, text, left);
     }
     if r.kind <= TYPE_NAME {
-        return type_name(p, out, words, tree, text, left);
+        return type_name(p, out, pool, tree, text, left);
     }
     if r.kind <= UPSERT_NOTHING {
-        return upsert_do(p, out, words, tree, text, left);
+        return upsert_do(p, out, pool, tree, text, left);
     }
     if r.kind <= WITH {
-        return with_clause(p, out, words, tree, text, left);
+        return with_clause(p, out, pool, tree, text, left);
     }
     if r.kind <= CUSTOM_TYPE {
-        return create_type_body(p, out, words, tree, text, left);
+        return create_type_body(p, out, pool, tree, text, left);
     }
     if r.kind <= TYPE_FIELD {
-        return type_field(p, out, words, tree, text, left);
+        return type_field(p, out, pool, tree, text, left);
     }
     if r.kind <= TYPE_PARAM {
-        return type_param(p, out, words, tree, text, left);
+        return type_param(p, out, pool, tree, text, left);
     }
     if r.kind <= OPERATOR_CLAUSE {
-        return operator_clause(p, out, words, tree, text, left);
+        return operator_clause(p, out, pool, tree, text, left);
     }
     if r.kind <= DOMAIN_CONSTRAINT {
-        return domain_constraint(p, out, words, tree, text, left);
+        return domain_constraint(p, out, pool, tree, text, left);
     }
     if r.kind <= PAIR {
-        return pair(p, out, words, tree, text, left);
+        return pair(p, out, pool, tree, text, left);
     }
-    named_table_constraint(p, out, words, tree, text, left)
+    named_table_constraint(p, out, pool, tree, text, left)
 }
 
 // What may stand in a root LIST: a RUN, a statement or a clause.
-fn root_element(p: Pen, out: &mut [u8], words: &[u8], tree: &[u8], text: &[u8], left: usize) -> Pen
-    ensures { λ q. ⌜ Below (source (now (tree .entry)) (now (text .entry))) (now (words .entry)) left (slot (one rootKinds)) (p, now (out .entry)) (q, now (out .exit)) ⌝ }
+fn root_element(p: Pen, out: &mut [u8], pool: &[u8], tree: &[u8], text: &[u8], left: usize) -> Pen
+    ensures { λ q. ⌜ Below (source (now (tree .entry)) (now (text .entry))) (now (pool .entry)) left (slot (one rootKinds)) (p, now (out .entry)) (q, now (out .exit)) ⌝ }
 {
     let r = record::read(tree, p.next);
     if r.kind < SELECT {
-        return stmt(p, out, words, tree, text, left);
+        return stmt(p, out, pool, tree, text, left);
     }
     if r.kind < COLUMN_DEFINITION {
-        return clause_to_as_select(p, out, words, tree, text, left);
+        return clause_to_as_select(p, out, pool, tree, text, left);
     }
-    clause_to_named_table_constraint(p, out, words, tree, text, left)
+    clause_to_named_table_constraint(p, out, pool, tree, text, left)
 }
 
 // So many elements of a root LIST, with commas between them.
 fn root_elements(
     p: Pen,
     out: &mut [u8],
-    words: &[u8],
+    pool: &[u8],
     tree: &[u8],
     text: &[u8],
     left: usize,
     n: u16,
 ) -> Pen
-    ensures { λ q. ⌜ RootRow (source (now (tree .entry)) (now (text .entry))) (now (words .entry)) left n (p, now (out .entry)) (q, now (out .exit)) ⌝ }
+    ensures { λ q. ⌜ RootRow (source (now (tree .entry)) (now (text .entry))) (now (pool .entry)) left n (p, now (out .entry)) (q, now (out .exit)) ⌝ }
 {
     let mut q = p;
     let mut rest = n;
     let mut lead = false;
     while 0 < rest {
-        q = comma_if(q, out, words, lead);
-        q = root_element(q, out, words, tree, text, left);
+        q = comma_if(q, out, pool, lead);
+        q = root_element(q, out, pool, tree, text, left);
         lead = true;
         rest -= 1;
     }
@@ -293,25 +293,25 @@ fn root_elements(
 }
 
 // The root: Cmd, a LIST with commas, a RUN, a statement or a clause.
-fn root(p: Pen, out: &mut [u8], words: &[u8], tree: &[u8], text: &[u8]) -> Pen
-    ensures { λ q. ⌜ Rooted (source (now (tree .entry)) (now (text .entry))) (now (words .entry)) 64 (p, now (out .entry)) (q, now (out .exit)) ⌝ }
+fn root(p: Pen, out: &mut [u8], pool: &[u8], tree: &[u8], text: &[u8]) -> Pen
+    ensures { λ q. ⌜ Rooted (source (now (tree .entry)) (now (text .entry))) (now (pool .entry)) 64 (p, now (out .entry)) (q, now (out .exit)) ⌝ }
 {
     let r = record::read(tree, p.next);
     let q = pass(p, tree);
     if r.kind == LIST {
-        return root_elements(q, out, words, tree, text, DEEPEST, r.kids);
+        return root_elements(q, out, pool, tree, text, DEEPEST, r.kids);
     }
     if r.kind == CMD {
-        return cmd(q, out, words, tree, text, DEEPEST - 1, r.flags);
+        return cmd(q, out, pool, tree, text, DEEPEST - 1, r.flags);
     }
-    root_element(p, out, words, tree, text, DEEPEST)
+    root_element(p, out, pool, tree, text, DEEPEST)
 }
 
 // The tokens of a tree, written from its root on.
-pub fn to_tokens(s: Sink, out: &mut [u8], words: &[u8], tree: &[u8], text: &[u8]) -> Sink
-    ensures { λ r. ⌜ (r, now (out .exit)) ≡ emit (now (words .entry)) (s, now (out .entry)) (tokensOf (source (now (tree .entry)) (now (text .entry)))) ⌝ }
+pub fn to_tokens(s: Sink, out: &mut [u8], pool: &[u8], tree: &[u8], text: &[u8]) -> Sink
+    ensures { λ r. ⌜ (r, now (out .exit)) ≡ emit (now (pool .entry)) (s, now (out .entry)) (tokensOf (source (now (tree .entry)) (now (text .entry)))) ⌝ }
 {
     let p = Pen { sink: s, next: 0 };
-    let q = root(p, out, words, tree, text);
+    let q = root(p, out, pool, tree, text);
     q.sink
 }

@@ -52,8 +52,8 @@ pub fn part(text: &[u8], start: usize, len: usize) -> &[u8]
 }
 
 // The next record, a TOKEN.
-fn token(p: Pen, out: &mut [u8], words: &[u8], tree: &[u8], text: &[u8]) -> Pen
-    ensures { λ q. ⌜ Puts (now (words .entry)) (tokenAt (source (now (tree .entry)) (now (text .entry))) (p .next)) (p, now (out .entry)) (q, now (out .exit)) ⌝ }
+fn token(p: Pen, out: &mut [u8], pool: &[u8], tree: &[u8], text: &[u8]) -> Pen
+    ensures { λ q. ⌜ Puts (now (pool .entry)) (tokenAt (source (now (tree .entry)) (now (text .entry))) (p .next)) (p, now (out .entry)) (q, now (out .exit)) ⌝ }
 {
     let r = record::read(tree, p.next);
     let q = pass(p, tree);
@@ -61,17 +61,17 @@ fn token(p: Pen, out: &mut [u8], words: &[u8], tree: &[u8], text: &[u8]) -> Pen
         return q;
     }
     let value = part(text, r.start as usize, r.len as usize);
-    append(q, out, words, r.flags % PRESENT, PRESENT <= r.flags, value)
+    append(q, out, pool, r.flags % PRESENT, PRESENT <= r.flags, value)
 }
 
 // So many TOKENs, one behind the other.
-fn tokens(p: Pen, out: &mut [u8], words: &[u8], tree: &[u8], text: &[u8], n: u16) -> Pen
-    ensures { λ q. ⌜ Puts (now (words .entry)) (rows (tokenAt (source (now (tree .entry)) (now (text .entry)))) [] [] n (p .next)) (p, now (out .entry)) (q, now (out .exit)) ⌝ }
+fn tokens(p: Pen, out: &mut [u8], pool: &[u8], tree: &[u8], text: &[u8], n: u16) -> Pen
+    ensures { λ q. ⌜ Puts (now (pool .entry)) (rows (tokenAt (source (now (tree .entry)) (now (text .entry)))) [] [] n (p .next)) (p, now (out .entry)) (q, now (out .exit)) ⌝ }
 {
     let mut q = p;
     let mut rest = n;
     while 0 < rest {
-        q = token(q, out, words, tree, text);
+        q = token(q, out, pool, tree, text);
         rest -= 1;
     }
     q
@@ -84,11 +84,11 @@ fn run_from(
     at: usize,
     next: usize,
     out: &mut [u8],
-    words: &[u8],
+    pool: &[u8],
     tree: &[u8],
     text: &[u8],
 ) -> Pen
-    ensures { λ q. ⌜ Always (source (now (tree .entry)) (now (text .entry))) (now (words .entry)) (slot run') (record { sink = record { spaced = spaced; at = at }; next = next }, now (out .entry)) (q, now (out .exit)) ⌝ }
+    ensures { λ q. ⌜ Always (source (now (tree .entry)) (now (text .entry))) (now (pool .entry)) (slot run') (record { sink = record { spaced = spaced; at = at }; next = next }, now (out .entry)) (q, now (out .exit)) ⌝ }
 {
     let r = record::read(tree, next);
     let sink = Sink { spaced, at };
@@ -96,20 +96,20 @@ fn run_from(
     if r.kind != RUN {
         return q;
     }
-    tokens(q, out, words, tree, text, r.kids)
+    tokens(q, out, pool, tree, text, r.kids)
 }
 
 // The same for a pen.
-pub fn run(p: Pen, out: &mut [u8], words: &[u8], tree: &[u8], text: &[u8]) -> Pen
-    ensures { λ q. ⌜ Always (source (now (tree .entry)) (now (text .entry))) (now (words .entry)) (slot run') (p, now (out .entry)) (q, now (out .exit)) ⌝ }
+pub fn run(p: Pen, out: &mut [u8], pool: &[u8], tree: &[u8], text: &[u8]) -> Pen
+    ensures { λ q. ⌜ Always (source (now (tree .entry)) (now (text .entry))) (now (pool .entry)) (slot run') (p, now (out .entry)) (q, now (out .exit)) ⌝ }
 {
     let s = p.sink;
-    run_from(s.spaced, s.at, p.next, out, words, tree, text)
+    run_from(s.spaced, s.at, p.next, out, pool, tree, text)
 }
 
 // The next record, a TEXT, as TK_ID. Any other kind, NONE too, writes nothing.
-pub fn name(p: Pen, out: &mut [u8], words: &[u8], tree: &[u8], text: &[u8]) -> Pen
-    ensures { λ q. ⌜ Always (source (now (tree .entry)) (now (text .entry))) (now (words .entry)) (slot text') (p, now (out .entry)) (q, now (out .exit)) ⌝ }
+pub fn name(p: Pen, out: &mut [u8], pool: &[u8], tree: &[u8], text: &[u8]) -> Pen
+    ensures { λ q. ⌜ Always (source (now (tree .entry)) (now (text .entry))) (now (pool .entry)) (slot text') (p, now (out .entry)) (q, now (out .exit)) ⌝ }
 {
     let r = record::read(tree, p.next);
     let q = pass(p, tree);
@@ -117,7 +117,7 @@ pub fn name(p: Pen, out: &mut [u8], words: &[u8], tree: &[u8], text: &[u8]) -> P
         return q;
     }
     let value = part(text, r.start as usize, r.len as usize);
-    append(q, out, words, TK_ID, true, value)
+    append(q, out, pool, TK_ID, true, value)
 }
 
 // ---- flags, and words under a flag
@@ -144,34 +144,34 @@ pub fn third_flag(flags: u16) -> bool
 }
 
 // A word if so.
-pub fn word_if(p: Pen, out: &mut [u8], words: &[u8], on: bool, kind: u16) -> Pen
-    ensures { λ q. ⌜ Under on (λ bit. when bit (word' kind)) (now (words .entry)) (p, now (out .entry)) (q, now (out .exit)) ⌝ }
+pub fn word_if(p: Pen, out: &mut [u8], pool: &[u8], on: bool, kind: u16) -> Pen
+    ensures { λ q. ⌜ Under on (λ bit. when bit (word' kind)) (now (pool .entry)) (p, now (out .entry)) (q, now (out .exit)) ⌝ }
 {
     if on {
-        return word(p, out, words, kind);
+        return word(p, out, pool, kind);
     }
     p
 }
 
 // IF EXISTS if so.
-pub fn if_exists(p: Pen, out: &mut [u8], words: &[u8], on: bool) -> Pen
-    ensures { λ q. ⌜ Under on (λ bit. when bit (word' TK-IF · word' TK-EXISTS)) (now (words .entry)) (p, now (out .entry)) (q, now (out .exit)) ⌝ }
+pub fn if_exists(p: Pen, out: &mut [u8], pool: &[u8], on: bool) -> Pen
+    ensures { λ q. ⌜ Under on (λ bit. when bit (word' TK-IF · word' TK-EXISTS)) (now (pool .entry)) (p, now (out .entry)) (q, now (out .exit)) ⌝ }
 {
     if on {
-        let q = word(p, out, words, TK_IF);
-        return word(q, out, words, TK_EXISTS);
+        let q = word(p, out, pool, TK_IF);
+        return word(q, out, pool, TK_EXISTS);
     }
     p
 }
 
 // IF NOT EXISTS if so.
-pub fn if_not_exists(p: Pen, out: &mut [u8], words: &[u8], on: bool) -> Pen
-    ensures { λ q. ⌜ Under on if-not-exists (now (words .entry)) (p, now (out .entry)) (q, now (out .exit)) ⌝ }
+pub fn if_not_exists(p: Pen, out: &mut [u8], pool: &[u8], on: bool) -> Pen
+    ensures { λ q. ⌜ Under on if-not-exists (now (pool .entry)) (p, now (out .entry)) (q, now (out .exit)) ⌝ }
 {
     if on {
-        let q = word(p, out, words, TK_IF);
-        let q = word(q, out, words, TK_NOT);
-        return word(q, out, words, TK_EXISTS);
+        let q = word(p, out, pool, TK_IF);
+        let q = word(q, out, pool, TK_NOT);
+        return word(q, out, pool, TK_EXISTS);
     }
     p
 }
@@ -179,16 +179,16 @@ pub fn if_not_exists(p: Pen, out: &mut [u8], words: &[u8], on: bool) -> Pen
 // ---- lists of runs
 
 // So many RUNs, one behind the other, with commas between them or not.
-fn runs(p: Pen, out: &mut [u8], words: &[u8], tree: &[u8], text: &[u8], n: u16, commas: bool) -> Pen
-    ensures { λ q. ⌜ Runs (source (now (tree .entry)) (now (text .entry))) (now (words .entry)) commas n (p, now (out .entry)) (q, now (out .exit)) ⌝ }
+fn runs(p: Pen, out: &mut [u8], pool: &[u8], tree: &[u8], text: &[u8], n: u16, commas: bool) -> Pen
+    ensures { λ q. ⌜ Runs (source (now (tree .entry)) (now (text .entry))) (now (pool .entry)) commas n (p, now (out .entry)) (q, now (out .exit)) ⌝ }
 {
     let mut q = p;
     let mut rest = n;
     let mut lead = false;
     while 0 < rest {
-        q = comma_if(q, out, words, lead);
+        q = comma_if(q, out, pool, lead);
         let s = q.sink;
-        q = run_from(s.spaced, s.at, q.next, out, words, tree, text);
+        q = run_from(s.spaced, s.at, q.next, out, pool, tree, text);
         lead = commas;
         rest -= 1;
     }
@@ -196,86 +196,86 @@ fn runs(p: Pen, out: &mut [u8], words: &[u8], tree: &[u8], text: &[u8], n: u16, 
 }
 
 // A comma if so.
-pub fn comma_if(p: Pen, out: &mut [u8], words: &[u8], on: bool) -> Pen
-    ensures { λ q. ⌜ Says (now (words .entry)) (opt on comma') (p, now (out .entry)) (q, now (out .exit)) ⌝ }
+pub fn comma_if(p: Pen, out: &mut [u8], pool: &[u8], on: bool) -> Pen
+    ensures { λ q. ⌜ Says (now (pool .entry)) (opt on comma') (p, now (out .entry)) (q, now (out .exit)) ⌝ }
 {
     if on {
-        return append(p, out, words, TK_COMMA, false, b"");
+        return append(p, out, pool, TK_COMMA, false, b"");
     }
     p
 }
 
 // The next record, a LIST of RUNs, with commas between them or not.
-fn list(p: Pen, out: &mut [u8], words: &[u8], tree: &[u8], text: &[u8], commas: bool) -> Pen
-    ensures { λ q. ⌜ Always (source (now (tree .entry)) (now (text .entry))) (now (words .entry)) (cond commas (commas' run') (row run')) (p, now (out .entry)) (q, now (out .exit)) ⌝ }
+fn list(p: Pen, out: &mut [u8], pool: &[u8], tree: &[u8], text: &[u8], commas: bool) -> Pen
+    ensures { λ q. ⌜ Always (source (now (tree .entry)) (now (text .entry))) (now (pool .entry)) (cond commas (commas' run') (row run')) (p, now (out .entry)) (q, now (out .exit)) ⌝ }
 {
     let r = record::read(tree, p.next);
     let q = pass(p, tree);
     if r.kind != LIST {
         return q;
     }
-    runs(q, out, words, tree, text, r.kids, commas)
+    runs(q, out, pool, tree, text, r.kids, commas)
 }
 
 // The next record, a LIST of RUNs, with commas between them.
-pub fn comma(p: Pen, out: &mut [u8], words: &[u8], tree: &[u8], text: &[u8]) -> Pen
-    ensures { λ q. ⌜ Always (source (now (tree .entry)) (now (text .entry))) (now (words .entry)) (commas' run') (p, now (out .entry)) (q, now (out .exit)) ⌝ }
+pub fn comma(p: Pen, out: &mut [u8], pool: &[u8], tree: &[u8], text: &[u8]) -> Pen
+    ensures { λ q. ⌜ Always (source (now (tree .entry)) (now (text .entry))) (now (pool .entry)) (commas' run') (p, now (out .entry)) (q, now (out .exit)) ⌝ }
 {
-    list(p, out, words, tree, text, true)
+    list(p, out, pool, tree, text, true)
 }
 
 // The next record, a LIST of RUNs, one behind the other.
-pub fn each(p: Pen, out: &mut [u8], words: &[u8], tree: &[u8], text: &[u8]) -> Pen
-    ensures { λ q. ⌜ Always (source (now (tree .entry)) (now (text .entry))) (now (words .entry)) (row run') (p, now (out .entry)) (q, now (out .exit)) ⌝ }
+pub fn each(p: Pen, out: &mut [u8], pool: &[u8], tree: &[u8], text: &[u8]) -> Pen
+    ensures { λ q. ⌜ Always (source (now (tree .entry)) (now (text .entry))) (now (pool .entry)) (row run') (p, now (out .entry)) (q, now (out .exit)) ⌝ }
 {
-    list(p, out, words, tree, text, false)
+    list(p, out, pool, tree, text, false)
 }
 
 // The same as `comma`, in brackets.
-pub fn in_parens(p: Pen, out: &mut [u8], words: &[u8], tree: &[u8], text: &[u8]) -> Pen
-    ensures { λ q. ⌜ Always (source (now (tree .entry)) (now (text .entry))) (now (words .entry)) (parens (commas' run')) (p, now (out .entry)) (q, now (out .exit)) ⌝ }
+pub fn in_parens(p: Pen, out: &mut [u8], pool: &[u8], tree: &[u8], text: &[u8]) -> Pen
+    ensures { λ q. ⌜ Always (source (now (tree .entry)) (now (text .entry))) (now (pool .entry)) (parens (commas' run')) (p, now (out .entry)) (q, now (out .exit)) ⌝ }
 {
-    let q = word(p, out, words, TK_LP);
-    let q = comma(q, out, words, tree, text);
-    word(q, out, words, TK_RP)
+    let q = word(p, out, pool, TK_LP);
+    let q = comma(q, out, pool, tree, text);
+    word(q, out, pool, TK_RP)
 }
 
 // So many RUNs, each with a `;` and a newline behind it.
-fn ended(p: Pen, out: &mut [u8], words: &[u8], tree: &[u8], text: &[u8], n: u16) -> Pen
-    ensures { λ q. ⌜ Lines (source (now (tree .entry)) (now (text .entry))) (now (words .entry)) n (p, now (out .entry)) (q, now (out .exit)) ⌝ }
+fn ended(p: Pen, out: &mut [u8], pool: &[u8], tree: &[u8], text: &[u8], n: u16) -> Pen
+    ensures { λ q. ⌜ Lines (source (now (tree .entry)) (now (text .entry))) (now (pool .entry)) n (p, now (out .entry)) (q, now (out .exit)) ⌝ }
 {
     let mut q = p;
     let mut rest = n;
     while 0 < rest {
-        q = run(q, out, words, tree, text);
-        q = line(q, out, words, TK_SEMI);
+        q = run(q, out, pool, tree, text);
+        q = line(q, out, pool, TK_SEMI);
         rest -= 1;
     }
     q
 }
 
 // The next record, a LIST of RUNs, each with a `;` and a newline behind it.
-pub fn lines(p: Pen, out: &mut [u8], words: &[u8], tree: &[u8], text: &[u8]) -> Pen
-    ensures { λ q. ⌜ Always (source (now (tree .entry)) (now (text .entry))) (now (words .entry)) (lines' run' TK-SEMI) (p, now (out .entry)) (q, now (out .exit)) ⌝ }
+pub fn lines(p: Pen, out: &mut [u8], pool: &[u8], tree: &[u8], text: &[u8]) -> Pen
+    ensures { λ q. ⌜ Always (source (now (tree .entry)) (now (text .entry))) (now (pool .entry)) (lines' run' TK-SEMI) (p, now (out .entry)) (q, now (out .exit)) ⌝ }
 {
     let r = record::read(tree, p.next);
     let q = pass(p, tree);
     if r.kind != LIST {
         return q;
     }
-    ended(q, out, words, tree, text, r.kids)
+    ended(q, out, pool, tree, text, r.kids)
 }
 
 // So many LISTs of RUNs, each in brackets, with commas between them.
-fn bracketed(p: Pen, out: &mut [u8], words: &[u8], tree: &[u8], text: &[u8], n: u16) -> Pen
-    ensures { λ q. ⌜ Tuples (source (now (tree .entry)) (now (text .entry))) (now (words .entry)) n (p, now (out .entry)) (q, now (out .exit)) ⌝ }
+fn bracketed(p: Pen, out: &mut [u8], pool: &[u8], tree: &[u8], text: &[u8], n: u16) -> Pen
+    ensures { λ q. ⌜ Tuples (source (now (tree .entry)) (now (text .entry))) (now (pool .entry)) n (p, now (out .entry)) (q, now (out .exit)) ⌝ }
 {
     let mut q = p;
     let mut rest = n;
     let mut lead = false;
     while 0 < rest {
-        q = comma_if(q, out, words, lead);
-        q = in_parens(q, out, words, tree, text);
+        q = comma_if(q, out, pool, lead);
+        q = in_parens(q, out, pool, tree, text);
         lead = true;
         rest -= 1;
     }
@@ -283,82 +283,82 @@ fn bracketed(p: Pen, out: &mut [u8], words: &[u8], tree: &[u8], text: &[u8], n: 
 }
 
 // The next record, a LIST of LISTs of RUNs, each in brackets, with commas between them.
-pub fn tuples(p: Pen, out: &mut [u8], words: &[u8], tree: &[u8], text: &[u8]) -> Pen
-    ensures { λ q. ⌜ Always (source (now (tree .entry)) (now (text .entry))) (now (words .entry)) (tuples' run') (p, now (out .entry)) (q, now (out .exit)) ⌝ }
+pub fn tuples(p: Pen, out: &mut [u8], pool: &[u8], tree: &[u8], text: &[u8]) -> Pen
+    ensures { λ q. ⌜ Always (source (now (tree .entry)) (now (text .entry))) (now (pool .entry)) (tuples' run') (p, now (out .entry)) (q, now (out .exit)) ⌝ }
 {
     let r = record::read(tree, p.next);
     let q = pass(p, tree);
     if r.kind != LIST {
         return q;
     }
-    bracketed(q, out, words, tree, text, r.kids)
+    bracketed(q, out, pool, tree, text, r.kids)
 }
 
 // ---- parts that are there if a field is filled or given
 
 // A LIST of RUNs in brackets, unless it is empty.
-pub fn columns(p: Pen, out: &mut [u8], words: &[u8], tree: &[u8], text: &[u8]) -> Pen
-    ensures { λ q. ⌜ Always (source (now (tree .entry)) (now (text .entry))) (now (words .entry)) (filled (parens (commas' run'))) (p, now (out .entry)) (q, now (out .exit)) ⌝ }
+pub fn columns(p: Pen, out: &mut [u8], pool: &[u8], tree: &[u8], text: &[u8]) -> Pen
+    ensures { λ q. ⌜ Always (source (now (tree .entry)) (now (text .entry))) (now (pool .entry)) (filled (parens (commas' run'))) (p, now (out .entry)) (q, now (out .exit)) ⌝ }
 {
     let r = record::read(tree, p.next);
     if r.kids == 0 {
         return pass(p, tree);
     }
-    in_parens(p, out, words, tree, text)
+    in_parens(p, out, pool, tree, text)
 }
 
 // A word and a LIST of RUNs, unless it is empty.
-pub fn word_list(p: Pen, out: &mut [u8], words: &[u8], tree: &[u8], text: &[u8], kind: u16) -> Pen
-    ensures { λ q. ⌜ Always (source (now (tree .entry)) (now (text .entry))) (now (words .entry)) (filled (word' kind · commas' run')) (p, now (out .entry)) (q, now (out .exit)) ⌝ }
+pub fn word_list(p: Pen, out: &mut [u8], pool: &[u8], tree: &[u8], text: &[u8], kind: u16) -> Pen
+    ensures { λ q. ⌜ Always (source (now (tree .entry)) (now (text .entry))) (now (pool .entry)) (filled (word' kind · commas' run')) (p, now (out .entry)) (q, now (out .exit)) ⌝ }
 {
     let r = record::read(tree, p.next);
     if r.kids == 0 {
         return pass(p, tree);
     }
-    let q = word(p, out, words, kind);
-    comma(q, out, words, tree, text)
+    let q = word(p, out, pool, kind);
+    comma(q, out, pool, tree, text)
 }
 
 // A word and a RUN, unless that is NONE.
-pub fn clause(p: Pen, out: &mut [u8], words: &[u8], tree: &[u8], text: &[u8], kind: u16) -> Pen
-    ensures { λ q. ⌜ Always (source (now (tree .entry)) (now (text .entry))) (now (words .entry)) (clause' kind run') (p, now (out .entry)) (q, now (out .exit)) ⌝ }
+pub fn clause(p: Pen, out: &mut [u8], pool: &[u8], tree: &[u8], text: &[u8], kind: u16) -> Pen
+    ensures { λ q. ⌜ Always (source (now (tree .entry)) (now (text .entry))) (now (pool .entry)) (clause' kind run') (p, now (out .entry)) (q, now (out .exit)) ⌝ }
 {
     let r = record::read(tree, p.next);
     if r.kind == NONE {
         return pass(p, tree);
     }
-    let q = word(p, out, words, kind);
-    run(q, out, words, tree, text)
+    let q = word(p, out, pool, kind);
+    run(q, out, pool, tree, text)
 }
 
 // TK_ID with a text and a RUN, unless that is NONE.
 pub fn said_clause(
     p: Pen,
     out: &mut [u8],
-    words: &[u8],
+    pool: &[u8],
     tree: &[u8],
     text: &[u8],
     value: &[u8],
 ) -> Pen
-    ensures { λ q. ⌜ SaidClause (source (now (tree .entry)) (now (text .entry))) (now (words .entry)) (now (value .entry)) (p, now (out .entry)) (q, now (out .exit)) ⌝ }
+    ensures { λ q. ⌜ SaidClause (source (now (tree .entry)) (now (text .entry))) (now (pool .entry)) (now (value .entry)) (p, now (out .entry)) (q, now (out .exit)) ⌝ }
 {
     let r = record::read(tree, p.next);
     if r.kind == NONE {
         return pass(p, tree);
     }
-    let q = said(p, out, words, value);
-    run(q, out, words, tree, text)
+    let q = said(p, out, pool, value);
+    run(q, out, pool, tree, text)
 }
 
 // ON CONFLICT and a RUN, unless that is NONE.
-pub fn on_conflict(p: Pen, out: &mut [u8], words: &[u8], tree: &[u8], text: &[u8]) -> Pen
-    ensures { λ q. ⌜ Always (source (now (tree .entry)) (now (text .entry))) (now (words .entry)) on-conflict (p, now (out .entry)) (q, now (out .exit)) ⌝ }
+pub fn on_conflict(p: Pen, out: &mut [u8], pool: &[u8], tree: &[u8], text: &[u8]) -> Pen
+    ensures { λ q. ⌜ Always (source (now (tree .entry)) (now (text .entry))) (now (pool .entry)) on-conflict (p, now (out .entry)) (q, now (out .exit)) ⌝ }
 {
     let r = record::read(tree, p.next);
     if r.kind == NONE {
         return pass(p, tree);
     }
-    let q = word(p, out, words, TK_ON);
-    let q = word(q, out, words, TK_CONFLICT);
-    run(q, out, words, tree, text)
+    let q = word(p, out, pool, TK_ON);
+    let q = word(q, out, pool, TK_CONFLICT);
+    run(q, out, pool, tree, text)
 }

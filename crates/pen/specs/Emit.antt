@@ -38,11 +38,11 @@ abbrev pub fresh : Sink
 fresh = record { spaced = true; at = 0 }
 
 -- the text of a tree is stored from 0 on, and counted
-module _ (w out : List ℕ) (e : Source) (table : w ≡ bytes) (room : length out ≤ most) where
+module _ (w out : List ℕ) (e : Source) (pool : w ≡ bytes) (room : length out ≤ most) where
   pub text-counted : emit w (fresh, out) (tokensOf e) .0 .at ≡ count 0 (length (textOf e))
   unfolding textOf mark pour
-  text-counted = ap (λ (s : State). s .0 .at) (emit-text w (fresh, out) (tokensOf e) table room (omega arith))
+  text-counted = ap (λ (s : State). s .0 .at) (emit-text w (fresh, out) (tokensOf e) pool room (omega arith))
 
   pub text-stored : emit w (fresh, out) (tokensOf e) .1 ≡ sets out 0 (textOf e)
   unfolding textOf mark pour
-  text-stored = ap (λ (s : State). s .1) (emit-text w (fresh, out) (tokensOf e) table room (omega arith))
+  text-stored = ap (λ (s : State). s .1) (emit-text w (fresh, out) (tokensOf e) pool room (omega arith))

@@ -26,7 +26,7 @@ pub record Past (t : List ℕ) (p q : Pen) : Type 0 where
   pub sink : q .sink ≡ p .sink
   pub next : q .next ≡ min (p .next + 1) (count t)
 
--- tokens one after the other; w is the table of spellings that is lent
+-- tokens one after the other; w is the pool of spellings that is lent
 unfoldable pub emit : List ℕ → State → List Token → State
 emit w st [] = st
 emit w st (t ∷ ts) = emit w (step st (t .kind) (spellingIn w (t .kind)) (t .value)) ts

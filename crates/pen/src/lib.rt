@@ -17,10 +17,10 @@ pub struct Pen {
 }
 
 // One token: a kind, and a value where has.
-pub fn append(p: Pen, out: &mut [u8], words: &[u8], kind: u16, has: bool, value: &[u8]) -> Pen
-    ensures { λ q. ⌜ Says (now (words .entry)) (record { kind = kind; value = valueIf has (now (value .entry)) } ∷ []) (p, now (out .entry)) (q, now (out .exit)) ⌝ }
+pub fn append(p: Pen, out: &mut [u8], pool: &[u8], kind: u16, has: bool, value: &[u8]) -> Pen
+    ensures { λ q. ⌜ Says (now (pool .entry)) (record { kind = kind; value = valueIf has (now (value .entry)) } ∷ []) (p, now (out .entry)) (q, now (out .exit)) ⌝ }
 {
-    let s = stream::append(p.sink, out, kind, spelling::of(words, kind), has, value);
+    let s = stream::append(p.sink, out, kind, spelling::of(pool, kind), has, value);
     Pen {
         sink: Sink {
             spaced: s.spaced,
@@ -31,24 +31,24 @@ pub fn append(p: Pen, out: &mut [u8], words: &[u8], kind: u16, has: bool, value:
 }
 
 // A token with no value.
-pub fn word(p: Pen, out: &mut [u8], words: &[u8], kind: u16) -> Pen
-    ensures { λ q. ⌜ Anywhere (now (words .entry)) (word' kind) (p, now (out .entry)) (q, now (out .exit)) ⌝ }
+pub fn word(p: Pen, out: &mut [u8], pool: &[u8], kind: u16) -> Pen
+    ensures { λ q. ⌜ Anywhere (now (pool .entry)) (word' kind) (p, now (out .entry)) (q, now (out .exit)) ⌝ }
 {
-    append(p, out, words, kind, false, b"")
+    append(p, out, pool, kind, false, b"")
 }
 
 // TK_ID with this text.
-pub fn said(p: Pen, out: &mut [u8], words: &[u8], value: &[u8]) -> Pen
-    ensures { λ q. ⌜ Says (now (words .entry)) (id (now (value .entry)) ∷ []) (p, now (out .entry)) (q, now (out .exit)) ⌝ }
+pub fn said(p: Pen, out: &mut [u8], pool: &[u8], value: &[u8]) -> Pen
+    ensures { λ q. ⌜ Says (now (pool .entry)) (id (now (value .entry)) ∷ []) (p, now (out .entry)) (q, now (out .exit)) ⌝ }
 {
-    append(p, out, words, TK_ID, true, value)
+    append(p, out, pool, TK_ID, true, value)
 }
 
 // A token with a newline as its value.
-pub fn line(p: Pen, out: &mut [u8], words: &[u8], kind: u16) -> Pen
-    ensures { λ q. ⌜ Anywhere (now (words .entry)) (line' kind) (p, now (out .entry)) (q, now (out .exit)) ⌝ }
+pub fn line(p: Pen, out: &mut [u8], pool: &[u8], kind: u16) -> Pen
+    ensures { λ q. ⌜ Anywhere (now (pool .entry)) (line' kind) (p, now (out .entry)) (q, now (out .exit)) ⌝ }
 {
-    append(p, out, words, kind, true, b"\n")
+    append(p, out, pool, kind, true, b"\n")
 }
 
 // The index behind one of a tree: no further than its end.

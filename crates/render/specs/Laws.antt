@@ -29,10 +29,10 @@ use Rattle.render.specs.Steps.{counted, Writes, Drafted, Drafts}
 -- ---- the tokens of a tree, written by a fresh sink, are its text
 pub writes : (t x w out : List ℕ) (st : State) → w ≡ bytes → length out ≤ most → st ≡ emit w (fresh, out) (tokensOf (source t x)) → Writes t x out (st .0 .at) (st .1)
 unfolding counted
-writes t x w out st table room e =
+writes t x w out st pool room e =
     record {
-      counts = ap (λ (s : State). s .0 .at) e ∙ text-counted w out (source t x) table room;
-      stores = ap (λ (s : State). s .1) e ∙ text-stored w out (source t x) table room;
+      counts = ap (λ (s : State). s .0 .at) e ∙ text-counted w out (source t x) pool room;
+      stores = ap (λ (s : State). s .1) e ∙ text-stored w out (source t x) pool room;
     }
 
 -- ---- the ways through measure, by the number of the check's answer

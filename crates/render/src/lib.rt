@@ -49,49 +49,49 @@ pub fn place(o: Outcome) -> usize
 }
 
 // The text of a tree, from the output's first byte on, as much of it as there is room for; and how long it is.
-fn write(out: &mut [u8], words: &[u8], tree: &[u8], text: &[u8]) -> usize
-    requires { ⌜ now words ≡ bytes ⌝ }
+fn write(out: &mut [u8], pool: &[u8], tree: &[u8], text: &[u8]) -> usize
+    requires { ⌜ now pool ≡ bytes ⌝ }
     ensures { λ r. ⌜ Writes (now (tree .entry)) (now (text .entry)) (now (out .entry)) r (now (out .exit)) ⌝ }
 {
     let s = Sink {
         spaced: true,
         at: 0,
     };
-    let end = cmd::to_tokens(s, out, words, tree, text);
+    let end = cmd::to_tokens(s, out, pool, tree, text);
     end.at
 }
 
-// The length of the text of a tree, or the check's refusal, with the table of spellings lent. The text is written to a
+// The length of the text of a tree, or the check's refusal, with the pool of spellings lent. The text is written to a
 // draft, as much of it as there is room for.
-fn check_and_measure(draft: &mut [u8], words: &[u8], tree: &[u8], text: &[u8]) -> Outcome
-    requires { ⌜ now words ≡ bytes ⌝ }
+fn check_and_measure(draft: &mut [u8], pool: &[u8], tree: &[u8], text: &[u8]) -> Outcome
+    requires { ⌜ now pool ≡ bytes ⌝ }
     ensures { λ r. ⌜ Drafts (now (tree .entry)) (now (text .entry)) r (now (draft .exit)) ⌝ }
 {
     let answer = tree::check(tree, text);
     if tree::number(answer) != 0 {
         return Outcome::Refused(answer);
     }
-    Outcome::Done(write(draft, words, tree, text))
+    Outcome::Done(write(draft, pool, tree, text))
 }
 
 // The length of the text of a tree, or the check's refusal: there is no room for a draft.
 pub fn measure(tree: &[u8], text: &[u8]) -> Outcome
     ensures { λ r. ⌜ Measures (now (tree .entry)) (now (text .entry)) r ⌝ }
 {
-    let words = spelling::table();
+    let pool = spelling::pool();
     let mut nothing = [0u8; 0];
-    check_and_measure(&mut nothing, &words, tree, text)
+    check_and_measure(&mut nothing, &pool, tree, text)
 }
 
 // The text of a tree, which has so many bytes, in the output: copied from its draft, if that has room for all of it.
-fn fair_copy(out: &mut [u8], draft: &[u8], words: &[u8], tree: &[u8], text: &[u8], length: usize)
-    requires { ⌜ (now words ≡ bytes) × ((length ≡ length' (textFrom (now tree) (now text))) × ((length ≤ length' (now out)) × Drafted (now tree) (now text) (now draft))) ⌝ }
+fn fair_copy(out: &mut [u8], draft: &[u8], pool: &[u8], tree: &[u8], text: &[u8], length: usize)
+    requires { ⌜ (now pool ≡ bytes) × ((length ≡ length' (textFrom (now tree) (now text))) × ((length ≤ length' (now out)) × Drafted (now tree) (now text) (now draft))) ⌝ }
     ensures { λ _. ⌜ now (out .exit) ≡ sets (now (out .entry)) 0 (textFrom (now (tree .entry)) (now (text .entry))) ⌝ }
 {
     if length <= draft.len() {
         bytes::copy(&draft[..length], out);
     } else {
-        write(out, words, tree, text);
+        write(out, pool, tree, text);
     }
 }
 
@@ -100,15 +100,15 @@ fn fair_copy(out: &mut [u8], draft: &[u8], words: &[u8], tree: &[u8], text: &[u8
 pub fn render(tree: &[u8], text: &[u8], out: &mut [u8]) -> Outcome
     ensures { λ r. ⌜ Renders (now (tree .entry)) (now (text .entry)) (now (out .entry)) r (now (out .exit)) ⌝ }
 {
-    let words = spelling::table();
+    let pool = spelling::pool();
     let mut draft = [0u8; DRAFT];
-    let measured = check_and_measure(&mut draft, &words, tree, text);
+    let measured = check_and_measure(&mut draft, &pool, tree, text);
     let Outcome::Done(length) = measured else {
         return measured;
     };
     if out.len() < length {
         return Outcome::NoRoom(length);
     }
-    fair_copy(out, &draft, &words, tree, text, length);
+    fair_copy(out, &draft, &pool, tree, text, length);
     Outcome::Done(length)
 }

@@ -51,7 +51,7 @@ ranged-known k =
     (λ h. beq (ranged k) (known k) (at (λ n. Bool·beq (ranged n) (known n)) count ranged-below k h))
     (ranged-past k)
 
--- the lent table spells every number as the rows do
+-- the lent pool spells every number as the rows do
 spells-below : below (λ k. same (spellingIn bytes k) (spelling k)) count ≡ true
 unfolding spellingIn rowOf within bytes spelling row rows
 spells-below = refl

@@ -1,6 +1,6 @@
 // The spelling table (01, section 1): what each token number is spelled as, and which numbers a token has.
 //
-// It has a row for each token number, an offset and a length, and a pool of bytes. The pool is made once, by `table`, and
+// It has a row for each token number, an offset and a length, and a pool of bytes. The pool is made once, by `pool`, and
 // lent to whoever looks a spelling up.
 pub mod token;
 pub mod words;
@@ -25,7 +25,7 @@ EXCEPTINTERSECTSELECTVALUESDISTINCT.FROMJOINUSINGORDERGROUPHAVINGLIMITWHERERETUR
 CASEWHENTHENELSEINDEXALTERADDWINDOWOVERFILTERWITHINCONCURRENTOPTIMIZETYPE[]:@>&&";
 
 // The pool, to be made once and lent.
-pub fn table() -> [u8; 824]
+pub fn pool() -> [u8; 824]
     ensures { λ r. ⌜ r ≡ bytes' ⌝ }
 {
     POOL

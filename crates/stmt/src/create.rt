@@ -57,210 +57,210 @@ use spelling::token::TK_WHERE;
 use spelling::token::TK_WITH;
 
 // An index's WITH, unless it is empty.
-fn index_options(p: Pen, out: &mut [u8], words: &[u8], tree: &[u8], text: &[u8], left: usize) -> Pen
-    ensures { λ q. ⌜ Below (source (now (tree .entry)) (now (text .entry))) (now (words .entry)) left (indexOptions) (p, now (out .entry)) (q, now (out .exit)) ⌝ }
+fn index_options(p: Pen, out: &mut [u8], pool: &[u8], tree: &[u8], text: &[u8], left: usize) -> Pen
+    ensures { λ q. ⌜ Below (source (now (tree .entry)) (now (text .entry))) (now (pool .entry)) left (indexOptions) (p, now (out .entry)) (q, now (out .exit)) ⌝ }
 {
     let r = record::read(tree, p.next);
     if r.kids == 0 {
         return pass(p, tree);
     }
-    let q = word(p, out, words, TK_WITH);
-    let q = word(q, out, words, TK_LP);
-    let q = list(q, out, words, tree, text, left, PAIR, true);
-    word(q, out, words, TK_RP)
+    let q = word(p, out, pool, TK_WITH);
+    let q = word(q, out, pool, TK_LP);
+    let q = list(q, out, pool, tree, text, left, PAIR, true);
+    word(q, out, pool, TK_RP)
 }
 
 // CreateIndex (37).
 pub fn create_index(
     p: Pen,
     out: &mut [u8],
-    words: &[u8],
+    pool: &[u8],
     tree: &[u8],
     text: &[u8],
     left: usize,
     unique: bool,
     not_there: bool,
 ) -> Pen
-    ensures { λ q. ⌜ ((r : Record') → unique ≡ flagged 0 r → «not_there» ≡ flagged 1 r → Writes (source (now (tree .entry)) (now (text .entry))) (now (words .entry)) left r (shape CreateIndex) (p, now (out .entry)) (q, now (out .exit))) ⌝ }
+    ensures { λ q. ⌜ ((r : Record') → unique ≡ flagged 0 r → «not_there» ≡ flagged 1 r → Writes (source (now (tree .entry)) (now (text .entry))) (now (pool .entry)) left r (shape CreateIndex) (p, now (out .entry)) (q, now (out .exit))) ⌝ }
 {
-    let q = word(p, out, words, TK_CREATE);
-    let q = word_if(q, out, words, unique, TK_UNIQUE);
-    let q = word(q, out, words, TK_INDEX);
-    let q = if_not_exists(q, out, words, not_there);
-    let q = run(q, out, words, tree, text);
-    let q = word(q, out, words, TK_ON);
-    let q = run(q, out, words, tree, text);
-    let q = clause(q, out, words, tree, text, TK_USING);
-    let q = in_parens(q, out, words, tree, text);
-    let q = index_options(q, out, words, tree, text, left);
-    clause(q, out, words, tree, text, TK_WHERE)
+    let q = word(p, out, pool, TK_CREATE);
+    let q = word_if(q, out, pool, unique, TK_UNIQUE);
+    let q = word(q, out, pool, TK_INDEX);
+    let q = if_not_exists(q, out, pool, not_there);
+    let q = run(q, out, pool, tree, text);
+    let q = word(q, out, pool, TK_ON);
+    let q = run(q, out, pool, tree, text);
+    let q = clause(q, out, pool, tree, text, TK_USING);
+    let q = in_parens(q, out, pool, tree, text);
+    let q = index_options(q, out, pool, tree, text, left);
+    clause(q, out, pool, tree, text, TK_WHERE)
 }
 
 // CreateTable (38).
 pub fn create_table(
     p: Pen,
     out: &mut [u8],
-    words: &[u8],
+    pool: &[u8],
     tree: &[u8],
     text: &[u8],
     left: usize,
     temporary: bool,
     not_there: bool,
 ) -> Pen
-    ensures { λ q. ⌜ ((r : Record') → temporary ≡ flagged 0 r → «not_there» ≡ flagged 1 r → Writes (source (now (tree .entry)) (now (text .entry))) (now (words .entry)) left r (shape CreateTable) (p, now (out .entry)) (q, now (out .exit))) ⌝ }
+    ensures { λ q. ⌜ ((r : Record') → temporary ≡ flagged 0 r → «not_there» ≡ flagged 1 r → Writes (source (now (tree .entry)) (now (text .entry))) (now (pool .entry)) left r (shape CreateTable) (p, now (out .entry)) (q, now (out .exit))) ⌝ }
 {
-    let q = word(p, out, words, TK_CREATE);
-    let q = word_if(q, out, words, temporary, TK_TEMP);
-    let q = word(q, out, words, TK_TABLE);
-    let q = if_not_exists(q, out, words, not_there);
-    let q = run(q, out, words, tree, text);
-    create_table_body(q, out, words, tree, text, left)
+    let q = word(p, out, pool, TK_CREATE);
+    let q = word_if(q, out, pool, temporary, TK_TEMP);
+    let q = word(q, out, pool, TK_TABLE);
+    let q = if_not_exists(q, out, pool, not_there);
+    let q = run(q, out, pool, tree, text);
+    create_table_body(q, out, pool, tree, text, left)
 }
 
 // FOR EACH ROW if so.
-fn for_each_row(p: Pen, out: &mut [u8], words: &[u8], on: bool) -> Pen
-    ensures { λ q. ⌜ Under on forEachRow' (now (words .entry)) (p, now (out .entry)) (q, now (out .exit)) ⌝ }
+fn for_each_row(p: Pen, out: &mut [u8], pool: &[u8], on: bool) -> Pen
+    ensures { λ q. ⌜ Under on forEachRow' (now (pool .entry)) (p, now (out .entry)) (q, now (out .exit)) ⌝ }
 {
     if on {
-        let q = word(p, out, words, TK_FOR);
-        let q = word(q, out, words, TK_EACH);
-        return word(q, out, words, TK_ROW);
+        let q = word(p, out, pool, TK_FOR);
+        let q = word(q, out, pool, TK_EACH);
+        return word(q, out, pool, TK_ROW);
     }
     p
 }
 
 // What stands behind a trigger's table.
-fn trigger_body(p: Pen, out: &mut [u8], words: &[u8], tree: &[u8], text: &[u8]) -> Pen
-    ensures { λ q. ⌜ Always (source (now (tree .entry)) (now (text .entry))) (now (words .entry)) (triggerBody) (p, now (out .entry)) (q, now (out .exit)) ⌝ }
+fn trigger_body(p: Pen, out: &mut [u8], pool: &[u8], tree: &[u8], text: &[u8]) -> Pen
+    ensures { λ q. ⌜ Always (source (now (tree .entry)) (now (text .entry))) (now (pool .entry)) (triggerBody) (p, now (out .entry)) (q, now (out .exit)) ⌝ }
 {
-    let q = clause(p, out, words, tree, text, TK_WHEN);
-    let q = line(q, out, words, TK_BEGIN);
-    let q = lines(q, out, words, tree, text);
-    word(q, out, words, TK_END)
+    let q = clause(p, out, pool, tree, text, TK_WHEN);
+    let q = line(q, out, pool, TK_BEGIN);
+    let q = lines(q, out, pool, tree, text);
+    word(q, out, pool, TK_END)
 }
 
 // CreateTrigger (39).
 pub fn create_trigger(
     p: Pen,
     out: &mut [u8],
-    words: &[u8],
+    pool: &[u8],
     tree: &[u8],
     text: &[u8],
     temporary: bool,
     not_there: bool,
     each_row: bool,
 ) -> Pen
-    ensures { λ q. ⌜ ((d : ℕ) (r : Record') → temporary ≡ flagged 0 r → «not_there» ≡ flagged 1 r → «each_row» ≡ flagged 2 r → Writes (source (now (tree .entry)) (now (text .entry))) (now (words .entry)) d r (shape CreateTrigger) (p, now (out .entry)) (q, now (out .exit))) ⌝ }
+    ensures { λ q. ⌜ ((d : ℕ) (r : Record') → temporary ≡ flagged 0 r → «not_there» ≡ flagged 1 r → «each_row» ≡ flagged 2 r → Writes (source (now (tree .entry)) (now (text .entry))) (now (pool .entry)) d r (shape CreateTrigger) (p, now (out .entry)) (q, now (out .exit))) ⌝ }
 {
-    let q = word(p, out, words, TK_CREATE);
-    let q = word_if(q, out, words, temporary, TK_TEMP);
-    let q = word(q, out, words, TK_TRIGGER);
-    let q = if_not_exists(q, out, words, not_there);
-    let q = run(q, out, words, tree, text);
-    let q = run(q, out, words, tree, text);
-    let q = run(q, out, words, tree, text);
-    let q = word(q, out, words, TK_ON);
-    let q = run(q, out, words, tree, text);
-    let q = for_each_row(q, out, words, each_row);
-    trigger_body(q, out, words, tree, text)
+    let q = word(p, out, pool, TK_CREATE);
+    let q = word_if(q, out, pool, temporary, TK_TEMP);
+    let q = word(q, out, pool, TK_TRIGGER);
+    let q = if_not_exists(q, out, pool, not_there);
+    let q = run(q, out, pool, tree, text);
+    let q = run(q, out, pool, tree, text);
+    let q = run(q, out, pool, tree, text);
+    let q = word(q, out, pool, TK_ON);
+    let q = run(q, out, pool, tree, text);
+    let q = for_each_row(q, out, pool, each_row);
+    trigger_body(q, out, pool, tree, text)
 }
 
 // A view's name, its columns and its select.
-fn view_body(p: Pen, out: &mut [u8], words: &[u8], tree: &[u8], text: &[u8], left: usize) -> Pen
-    ensures { λ q. ⌜ Below (source (now (tree .entry)) (now (text .entry))) (now (words .entry)) left (viewBody) (p, now (out .entry)) (q, now (out .exit)) ⌝ }
+fn view_body(p: Pen, out: &mut [u8], pool: &[u8], tree: &[u8], text: &[u8], left: usize) -> Pen
+    ensures { λ q. ⌜ Below (source (now (tree .entry)) (now (text .entry))) (now (pool .entry)) left (viewBody) (p, now (out .entry)) (q, now (out .exit)) ⌝ }
 {
-    let q = run(p, out, words, tree, text);
-    let q = columns(q, out, words, tree, text);
-    let q = word(q, out, words, TK_AS);
-    select(q, out, words, tree, text, left)
+    let q = run(p, out, pool, tree, text);
+    let q = columns(q, out, pool, tree, text);
+    let q = word(q, out, pool, TK_AS);
+    select(q, out, pool, tree, text, left)
 }
 
 // CreateView (40).
 pub fn create_view(
     p: Pen,
     out: &mut [u8],
-    words: &[u8],
+    pool: &[u8],
     tree: &[u8],
     text: &[u8],
     left: usize,
     temporary: bool,
     not_there: bool,
 ) -> Pen
-    ensures { λ q. ⌜ ((r : Record') → temporary ≡ flagged 0 r → «not_there» ≡ flagged 1 r → Writes (source (now (tree .entry)) (now (text .entry))) (now (words .entry)) left r (shape CreateView) (p, now (out .entry)) (q, now (out .exit))) ⌝ }
+    ensures { λ q. ⌜ ((r : Record') → temporary ≡ flagged 0 r → «not_there» ≡ flagged 1 r → Writes (source (now (tree .entry)) (now (text .entry))) (now (pool .entry)) left r (shape CreateView) (p, now (out .entry)) (q, now (out .exit))) ⌝ }
 {
-    let q = word(p, out, words, TK_CREATE);
-    let q = word_if(q, out, words, temporary, TK_TEMP);
-    let q = word(q, out, words, TK_VIEW);
-    let q = if_not_exists(q, out, words, not_there);
-    view_body(q, out, words, tree, text, left)
+    let q = word(p, out, pool, TK_CREATE);
+    let q = word_if(q, out, pool, temporary, TK_TEMP);
+    let q = word(q, out, pool, TK_VIEW);
+    let q = if_not_exists(q, out, pool, not_there);
+    view_body(q, out, pool, tree, text, left)
 }
 
 // CreateMaterializedView (41).
 pub fn create_materialized_view(
     p: Pen,
     out: &mut [u8],
-    words: &[u8],
+    pool: &[u8],
     tree: &[u8],
     text: &[u8],
     left: usize,
     not_there: bool,
 ) -> Pen
-    ensures { λ q. ⌜ ((r : Record') → «not_there» ≡ flagged 0 r → Writes (source (now (tree .entry)) (now (text .entry))) (now (words .entry)) left r (shape CreateMaterializedView) (p, now (out .entry)) (q, now (out .exit))) ⌝ }
+    ensures { λ q. ⌜ ((r : Record') → «not_there» ≡ flagged 0 r → Writes (source (now (tree .entry)) (now (text .entry))) (now (pool .entry)) left r (shape CreateMaterializedView) (p, now (out .entry)) (q, now (out .exit))) ⌝ }
 {
-    let q = word(p, out, words, TK_CREATE);
-    let q = word(q, out, words, TK_MATERIALIZED);
-    let q = word(q, out, words, TK_VIEW);
-    let q = if_not_exists(q, out, words, not_there);
-    view_body(q, out, words, tree, text, left)
+    let q = word(p, out, pool, TK_CREATE);
+    let q = word(q, out, pool, TK_MATERIALIZED);
+    let q = word(q, out, pool, TK_VIEW);
+    let q = if_not_exists(q, out, pool, not_there);
+    view_body(q, out, pool, tree, text, left)
 }
 
 // CreateVirtualTable (42).
 pub fn create_virtual_table(
     p: Pen,
     out: &mut [u8],
-    words: &[u8],
+    pool: &[u8],
     tree: &[u8],
     text: &[u8],
     not_there: bool,
 ) -> Pen
-    ensures { λ q. ⌜ ((d : ℕ) (r : Record') → «not_there» ≡ flagged 0 r → Writes (source (now (tree .entry)) (now (text .entry))) (now (words .entry)) d r (shape CreateVirtualTable) (p, now (out .entry)) (q, now (out .exit))) ⌝ }
+    ensures { λ q. ⌜ ((d : ℕ) (r : Record') → «not_there» ≡ flagged 0 r → Writes (source (now (tree .entry)) (now (text .entry))) (now (pool .entry)) d r (shape CreateVirtualTable) (p, now (out .entry)) (q, now (out .exit))) ⌝ }
 {
-    let q = word(p, out, words, TK_CREATE);
-    let q = word(q, out, words, TK_VIRTUAL);
-    let q = word(q, out, words, TK_TABLE);
-    let q = if_not_exists(q, out, words, not_there);
-    let q = run(q, out, words, tree, text);
-    let q = word(q, out, words, TK_USING);
-    let q = run(q, out, words, tree, text);
-    in_parens(q, out, words, tree, text)
+    let q = word(p, out, pool, TK_CREATE);
+    let q = word(q, out, pool, TK_VIRTUAL);
+    let q = word(q, out, pool, TK_TABLE);
+    let q = if_not_exists(q, out, pool, not_there);
+    let q = run(q, out, pool, tree, text);
+    let q = word(q, out, pool, TK_USING);
+    let q = run(q, out, pool, tree, text);
+    in_parens(q, out, pool, tree, text)
 }
 
 // CreateType (59).
 pub fn create_type(
     p: Pen,
     out: &mut [u8],
-    words: &[u8],
+    pool: &[u8],
     tree: &[u8],
     text: &[u8],
     left: usize,
     not_there: bool,
 ) -> Pen
-    ensures { λ q. ⌜ ((r : Record') → «not_there» ≡ flagged 0 r → Writes (source (now (tree .entry)) (now (text .entry))) (now (words .entry)) left r (shape CreateType) (p, now (out .entry)) (q, now (out .exit))) ⌝ }
+    ensures { λ q. ⌜ ((r : Record') → «not_there» ≡ flagged 0 r → Writes (source (now (tree .entry)) (now (text .entry))) (now (pool .entry)) left r (shape CreateType) (p, now (out .entry)) (q, now (out .exit))) ⌝ }
 {
-    let q = word(p, out, words, TK_CREATE);
-    let q = word(q, out, words, TK_TYPE);
-    let q = if_not_exists(q, out, words, not_there);
-    let q = name(q, out, words, tree, text);
-    create_type_body(q, out, words, tree, text, left)
+    let q = word(p, out, pool, TK_CREATE);
+    let q = word(q, out, pool, TK_TYPE);
+    let q = if_not_exists(q, out, pool, not_there);
+    let q = name(q, out, pool, tree, text);
+    create_type_body(q, out, pool, tree, text, left)
 }
 
 // NOT NULL if so.
-fn not_null(p: Pen, out: &mut [u8], words: &[u8], on: bool) -> Pen
-    ensures { λ q. ⌜ Under on notNull' (now (words .entry)) (p, now (out .entry)) (q, now (out .exit)) ⌝ }
+fn not_null(p: Pen, out: &mut [u8], pool: &[u8], on: bool) -> Pen
+    ensures { λ q. ⌜ Under on notNull' (now (pool .entry)) (p, now (out .entry)) (q, now (out .exit)) ⌝ }
 {
     if on {
-        let q = word(p, out, words, TK_NOT);
-        return word(q, out, words, TK_NULL);
+        let q = word(p, out, pool, TK_NOT);
+        return word(q, out, pool, TK_NULL);
     }
     p
 }
@@ -269,72 +269,65 @@ fn not_null(p: Pen, out: &mut [u8], words: &[u8], on: bool) -> Pen
 pub fn create_domain(
     p: Pen,
     out: &mut [u8],
-    words: &[u8],
+    pool: &[u8],
     tree: &[u8],
     text: &[u8],
     left: usize,
     not_there: bool,
     no_null: bool,
 ) -> Pen
-    ensures { λ q. ⌜ ((r : Record') → «not_there» ≡ flagged 0 r → «no_null» ≡ flagged 1 r → Writes (source (now (tree .entry)) (now (text .entry))) (now (words .entry)) left r (shape CreateDomain) (p, now (out .entry)) (q, now (out .exit))) ⌝ }
+    ensures { λ q. ⌜ ((r : Record') → «not_there» ≡ flagged 0 r → «no_null» ≡ flagged 1 r → Writes (source (now (tree .entry)) (now (text .entry))) (now (pool .entry)) left r (shape CreateDomain) (p, now (out .entry)) (q, now (out .exit))) ⌝ }
 {
-    let q = word(p, out, words, TK_CREATE);
-    let q = said(q, out, words, b"DOMAIN");
-    let q = if_not_exists(q, out, words, not_there);
-    let q = name(q, out, words, tree, text);
-    let q = word(q, out, words, TK_AS);
-    let q = name(q, out, words, tree, text);
-    let q = clause(q, out, words, tree, text, TK_DEFAULT);
-    let q = not_null(q, out, words, no_null);
-    list(q, out, words, tree, text, left, DOMAIN_CONSTRAINT, false)
+    let q = word(p, out, pool, TK_CREATE);
+    let q = said(q, out, pool, b"DOMAIN");
+    let q = if_not_exists(q, out, pool, not_there);
+    let q = name(q, out, pool, tree, text);
+    let q = word(q, out, pool, TK_AS);
+    let q = name(q, out, pool, tree, text);
+    let q = clause(q, out, pool, tree, text, TK_DEFAULT);
+    let q = not_null(q, out, pool, no_null);
+    list(q, out, pool, tree, text, left, DOMAIN_CONSTRAINT, false)
 }
 
 // A word and a number, unless that is NONE.
-fn number_clause(
-    p: Pen,
-    out: &mut [u8],
-    words: &[u8],
-    tree: &[u8],
-    text: &[u8],
-    value: &[u8],
-) -> Pen
-    ensures { λ q. ⌜ WithText (now (value .entry)) (λ v. Always (source (now (tree .entry)) (now (text .entry))) (now (words .entry)) (given (said' v · decimal)) (p, now (out .entry)) (q, now (out .exit))) ⌝ }
+fn number_clause(p: Pen, out: &mut [u8], pool: &[u8], tree: &[u8], text: &[u8], value: &[u8]) -> Pen
+    ensures { λ q. ⌜ WithText (now (value .entry)) (λ v. Always (source (now (tree .entry)) (now (text .entry))) (now (pool .entry)) (given (said' v · decimal)) (p, now (out .entry)) (q, now (out .exit))) ⌝ }
 {
     let r = record::read(tree, p.next);
     if r.kind == NONE {
         return pass(p, tree);
     }
-    let q = said(p, out, words, value);
-    number(q, out, words, tree)
+    let q = said(p, out, pool, value);
+    number(q, out, pool, tree)
 }
 
 // Two words and a number, unless that is NONE.
 fn number_clause_of_two(
     p: Pen,
     out: &mut [u8],
-    words: &[u8],
+    pool: &[u8],
     tree: &[u8],
     text: &[u8],
     first: &[u8],
     second: &[u8],
 ) -> Pen
-    ensures { λ q. ⌜ WithText (now (first .entry)) (λ v. WithText (now (second .entry)) (λ z. Always (source (now (tree .entry)) (now (text .entry))) (now (words .entry)) (given (said' v · said' z · decimal)) (p, now (out .entry)) (q, now (out .exit)))) ⌝ }
+    ensures { λ q. ⌜ WithText (now (first .entry)) (λ v. WithText (now (second .entry)) (λ z. Always (source (now (tree .entry)) (now (text .entry))) (now (pool .entry)) (given (said' v · said' z · decimal)) (p, now (out .entry)) (q, now (out .exit)))) ⌝ }
 {
     let r = record::read(tree, p.next);
     if r.kind == NONE {
         return pass(p, tree);
     }
-    let q = said(p, out, words, first);
-    let q = said(q, out, words, second);
-    number(q, out, words, tree)
+    let q = said(p, out, pool, first);
+    let q = said(q, out, pool, second);
+    number(q, out, pool, tree)
 }
 
 // CYCLE if so.
-fn cycles(p: Pen, out: &mut [u8], words: &[u8], on: bool) -> Pen
-    ensures { λ q. ⌜ Under on cycle' (now (words .entry)) (p, now (out .entry)) (q, now (out .exit)) ⌝ }
+fn cycles(p: Pen, out: &mut [u8], pool: &[u8], on: bool) -> Pen
+    ensures { λ q. ⌜ Under on cycle' (now (pool .entry)) (p, now (out .entry)) (q, now (out .exit)) ⌝ }
 {
     if on {
-        return said(p, out, words, b"CYCLE");
+        return said(p, out, pool, b"CYCLE");
     }
     p
 }
@@ -343,21 +336,21 @@ fn cycles(p: Pen, out: &mut [u8], words: &[u8], on: bool) -> Pen
 pub fn create_sequence(
     p: Pen,
     out: &mut [u8],
-    words: &[u8],
+    pool: &[u8],
     tree: &[u8],
     text: &[u8],
     not_there: bool,
     cycle: bool,
 ) -> Pen
-    ensures { λ q. ⌜ ((d : ℕ) (r : Record') → «not_there» ≡ flagged 0 r → cycle ≡ flagged 1 r → Writes (source (now (tree .entry)) (now (text .entry))) (now (words .entry)) d r (shape CreateSequence) (p, now (out .entry)) (q, now (out .exit))) ⌝ }
+    ensures { λ q. ⌜ ((d : ℕ) (r : Record') → «not_there» ≡ flagged 0 r → cycle ≡ flagged 1 r → Writes (source (now (tree .entry)) (now (text .entry))) (now (pool .entry)) d r (shape CreateSequence) (p, now (out .entry)) (q, now (out .exit))) ⌝ }
 {
-    let q = word(p, out, words, TK_CREATE);
-    let q = said(q, out, words, b"SEQUENCE");
-    let q = if_not_exists(q, out, words, not_there);
-    let q = run(q, out, words, tree, text);
-    let q = number_clause_of_two(q, out, words, tree, text, b"START", b"WITH");
-    let q = number_clause_of_two(q, out, words, tree, text, b"INCREMENT", b"BY");
-    let q = number_clause(q, out, words, tree, text, b"MINVALUE");
-    let q = number_clause(q, out, words, tree, text, b"MAXVALUE");
-    cycles(q, out, words, cycle)
+    let q = word(p, out, pool, TK_CREATE);
+    let q = said(q, out, pool, b"SEQUENCE");
+    let q = if_not_exists(q, out, pool, not_there);
+    let q = run(q, out, pool, tree, text);
+    let q = number_clause_of_two(q, out, pool, tree, text, b"START", b"WITH");
+    let q = number_clause_of_two(q, out, pool, tree, text, b"INCREMENT", b"BY");
+    let q = number_clause(q, out, pool, tree, text, b"MINVALUE");
+    let q = number_clause(q, out, pool, tree, text, b"MAXVALUE");
+    cycles(q, out, pool, cycle)
 }

@@ -21,60 +21,60 @@ use spelling::token::TK_TYPE;
 pub fn drop_named(
     p: Pen,
     out: &mut [u8],
-    words: &[u8],
+    pool: &[u8],
     tree: &[u8],
     text: &[u8],
     there: bool,
     kind: u16,
 ) -> Pen
-    ensures { λ q. ⌜ ((d : ℕ) (r : Record') → there ≡ flagged 0 r → Writes (source (now (tree .entry)) (now (text .entry))) (now (words .entry)) d r (word' TK-DROP · word' kind · if-exists · slot run') (p, now (out .entry)) (q, now (out .exit))) ⌝ }
+    ensures { λ q. ⌜ ((d : ℕ) (r : Record') → there ≡ flagged 0 r → Writes (source (now (tree .entry)) (now (text .entry))) (now (pool .entry)) d r (word' TK-DROP · word' kind · if-exists · slot run') (p, now (out .entry)) (q, now (out .exit))) ⌝ }
 {
-    let q = word(p, out, words, TK_DROP);
-    let q = word(q, out, words, kind);
-    let q = if_exists(q, out, words, there);
-    run(q, out, words, tree, text)
+    let q = word(p, out, pool, TK_DROP);
+    let q = word(q, out, pool, kind);
+    let q = if_exists(q, out, pool, there);
+    run(q, out, pool, tree, text)
 }
 
 // DropType (61).
-pub fn drop_type(p: Pen, out: &mut [u8], words: &[u8], tree: &[u8], text: &[u8], there: bool) -> Pen
-    ensures { λ q. ⌜ ((d : ℕ) (r : Record') → there ≡ flagged 0 r → Writes (source (now (tree .entry)) (now (text .entry))) (now (words .entry)) d r (shape DropType) (p, now (out .entry)) (q, now (out .exit))) ⌝ }
+pub fn drop_type(p: Pen, out: &mut [u8], pool: &[u8], tree: &[u8], text: &[u8], there: bool) -> Pen
+    ensures { λ q. ⌜ ((d : ℕ) (r : Record') → there ≡ flagged 0 r → Writes (source (now (tree .entry)) (now (text .entry))) (now (pool .entry)) d r (shape DropType) (p, now (out .entry)) (q, now (out .exit))) ⌝ }
 {
-    let q = word(p, out, words, TK_DROP);
-    let q = word(q, out, words, TK_TYPE);
-    let q = if_exists(q, out, words, there);
-    name(q, out, words, tree, text)
+    let q = word(p, out, pool, TK_DROP);
+    let q = word(q, out, pool, TK_TYPE);
+    let q = if_exists(q, out, pool, there);
+    name(q, out, pool, tree, text)
 }
 
 // DropSequence (63).
 pub fn drop_sequence(
     p: Pen,
     out: &mut [u8],
-    words: &[u8],
+    pool: &[u8],
     tree: &[u8],
     text: &[u8],
     there: bool,
 ) -> Pen
-    ensures { λ q. ⌜ ((d : ℕ) (r : Record') → there ≡ flagged 0 r → Writes (source (now (tree .entry)) (now (text .entry))) (now (words .entry)) d r (shape DropSequence) (p, now (out .entry)) (q, now (out .exit))) ⌝ }
+    ensures { λ q. ⌜ ((d : ℕ) (r : Record') → there ≡ flagged 0 r → Writes (source (now (tree .entry)) (now (text .entry))) (now (pool .entry)) d r (shape DropSequence) (p, now (out .entry)) (q, now (out .exit))) ⌝ }
 {
-    let q = word(p, out, words, TK_DROP);
-    let q = said(q, out, words, b"SEQUENCE");
-    let q = if_exists(q, out, words, there);
-    run(q, out, words, tree, text)
+    let q = word(p, out, pool, TK_DROP);
+    let q = said(q, out, pool, b"SEQUENCE");
+    let q = if_exists(q, out, pool, there);
+    run(q, out, pool, tree, text)
 }
 
 // DropDomain (64).
 pub fn drop_domain(
     p: Pen,
     out: &mut [u8],
-    words: &[u8],
+    pool: &[u8],
     tree: &[u8],
     text: &[u8],
     there: bool,
 ) -> Pen
-    ensures { λ q. ⌜ ((d : ℕ) (r : Record') → there ≡ flagged 0 r → Writes (source (now (tree .entry)) (now (text .entry))) (now (words .entry)) d r (shape DropDomain) (p, now (out .entry)) (q, now (out .exit))) ⌝ }
+    ensures { λ q. ⌜ ((d : ℕ) (r : Record') → there ≡ flagged 0 r → Writes (source (now (tree .entry)) (now (text .entry))) (now (pool .entry)) d r (shape DropDomain) (p, now (out .entry)) (q, now (out .exit))) ⌝ }
 {
-    let q = word(p, out, words, TK_DROP);
-    let q = said(q, out, words, b"DOMAIN");
-    let q = if_exists(q, out, words, there);
-    name(q, out, words, tree, text)
+    let q = word(p, out, pool, TK_DROP);
+    let q = said(q, out, pool, b"DOMAIN");
+    let q = if_exists(q, out, pool, there);
+    name(q, out, pool, tree, text)
 }

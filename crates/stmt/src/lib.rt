@@ -87,174 +87,174 @@ mod rows;
 fn stmt_to_create_virtual_table(
     p: Pen,
     out: &mut [u8],
-    words: &[u8],
+    pool: &[u8],
     tree: &[u8],
     text: &[u8],
     left: usize,
 ) -> Pen
-    ensures { λ q. ⌜ Below (source (now (tree .entry)) (now (text .entry))) (now (words .entry)) left (slot (node (from AlterTable 11))) (p, now (out .entry)) (q, now (out .exit)) ⌝ }
+    ensures { λ q. ⌜ Below (source (now (tree .entry)) (now (text .entry))) (now (pool .entry)) left (slot (node (from AlterTable 11))) (p, now (out .entry)) (q, now (out .exit)) ⌝ }
 {
     let r = record::read(tree, p.next);
     if left == 0 {
-        return run(p, out, words, tree, text);
+        return run(p, out, pool, tree, text);
     }
     let q = pass(p, tree);
     let first = first_flag(r.flags);
     let second = second_flag(r.flags);
     let third = third_flag(r.flags);
     if r.kind == ALTER_TABLE {
-        return alter_table(q, out, words, tree, text, left - 1);
+        return alter_table(q, out, pool, tree, text, left - 1);
     }
     if r.kind == ANALYZE {
-        return word_run(q, out, words, tree, text, TK_ANALYZE);
+        return word_run(q, out, pool, tree, text, TK_ANALYZE);
     }
     if r.kind == ATTACH {
-        return attach(q, out, words, tree, text);
+        return attach(q, out, pool, tree, text);
     }
     if r.kind == BEGIN {
-        return begin(q, out, words, tree, text);
+        return begin(q, out, pool, tree, text);
     }
     if r.kind == COMMIT {
-        return commit(q, out, words, tree, text);
+        return commit(q, out, pool, tree, text);
     }
     if r.kind == CREATE_INDEX {
-        return create_index(q, out, words, tree, text, left - 1, first, second);
+        return create_index(q, out, pool, tree, text, left - 1, first, second);
     }
     if r.kind == CREATE_TABLE {
-        return create_table(q, out, words, tree, text, left - 1, first, second);
+        return create_table(q, out, pool, tree, text, left - 1, first, second);
     }
     if r.kind == CREATE_TRIGGER {
-        return create_trigger(q, out, words, tree, text, first, second, third);
+        return create_trigger(q, out, pool, tree, text, first, second, third);
     }
     if r.kind == CREATE_VIEW {
-        return create_view(q, out, words, tree, text, left - 1, first, second);
+        return create_view(q, out, pool, tree, text, left - 1, first, second);
     }
     if r.kind == CREATE_MATERIALIZED_VIEW {
-        return create_materialized_view(q, out, words, tree, text, left - 1, first);
+        return create_materialized_view(q, out, pool, tree, text, left - 1, first);
     }
     if r.kind == CREATE_VIRTUAL_TABLE {
-        return create_virtual_table(q, out, words, tree, text, first);
+        return create_virtual_table(q, out, pool, tree, text, first);
     }
-    run(p, out, words, tree, text)
+    run(p, out, pool, tree, text)
 }
 
 // The statements from Delete to Rollback (43 to 54).
 fn stmt_to_rollback(
     p: Pen,
     out: &mut [u8],
-    words: &[u8],
+    pool: &[u8],
     tree: &[u8],
     text: &[u8],
     left: usize,
 ) -> Pen
-    ensures { λ q. ⌜ Below (source (now (tree .entry)) (now (text .entry))) (now (words .entry)) left (slot (node (from Delete 12))) (p, now (out .entry)) (q, now (out .exit)) ⌝ }
+    ensures { λ q. ⌜ Below (source (now (tree .entry)) (now (text .entry))) (now (pool .entry)) left (slot (node (from Delete 12))) (p, now (out .entry)) (q, now (out .exit)) ⌝ }
 {
     let r = record::read(tree, p.next);
     if left == 0 {
-        return run(p, out, words, tree, text);
+        return run(p, out, pool, tree, text);
     }
     let q = pass(p, tree);
     let first = first_flag(r.flags);
     if r.kind == DELETE {
-        return delete(q, out, words, tree, text, left - 1);
+        return delete(q, out, pool, tree, text, left - 1);
     }
     if r.kind == DETACH {
-        return word_run(q, out, words, tree, text, TK_DETACH);
+        return word_run(q, out, pool, tree, text, TK_DETACH);
     }
     if r.kind == DROP_INDEX {
-        return drop_named(q, out, words, tree, text, first, TK_INDEX);
+        return drop_named(q, out, pool, tree, text, first, TK_INDEX);
     }
     if r.kind == DROP_TABLE {
-        return drop_named(q, out, words, tree, text, first, TK_TABLE);
+        return drop_named(q, out, pool, tree, text, first, TK_TABLE);
     }
     if r.kind == DROP_TRIGGER {
-        return drop_named(q, out, words, tree, text, first, TK_TRIGGER);
+        return drop_named(q, out, pool, tree, text, first, TK_TRIGGER);
     }
     if r.kind == DROP_VIEW {
-        return drop_named(q, out, words, tree, text, first, TK_VIEW);
+        return drop_named(q, out, pool, tree, text, first, TK_VIEW);
     }
     if r.kind == INSERT {
-        return insert(q, out, words, tree, text, left - 1);
+        return insert(q, out, pool, tree, text, left - 1);
     }
     if r.kind == PRAGMA {
-        return pragma(q, out, words, tree, text);
+        return pragma(q, out, pool, tree, text);
     }
     if r.kind == REINDEX {
-        return word_run(q, out, words, tree, text, TK_REINDEX);
+        return word_run(q, out, pool, tree, text, TK_REINDEX);
     }
     if r.kind == OPTIMIZE {
-        return optimize(q, out, words, tree, text);
+        return optimize(q, out, pool, tree, text);
     }
     if r.kind == RELEASE {
-        return word_run(q, out, words, tree, text, TK_RELEASE);
+        return word_run(q, out, pool, tree, text, TK_RELEASE);
     }
     if r.kind == ROLLBACK {
-        return rollback(q, out, words, tree, text);
+        return rollback(q, out, pool, tree, text);
     }
-    run(p, out, words, tree, text)
+    run(p, out, pool, tree, text)
 }
 
 // The statements from Savepoint to DropDomain (55 to 64).
 fn stmt_to_drop_domain(
     p: Pen,
     out: &mut [u8],
-    words: &[u8],
+    pool: &[u8],
     tree: &[u8],
     text: &[u8],
     left: usize,
 ) -> Pen
-    ensures { λ q. ⌜ Below (source (now (tree .entry)) (now (text .entry))) (now (words .entry)) left (slot (node (from Savepoint 10))) (p, now (out .entry)) (q, now (out .exit)) ⌝ }
+    ensures { λ q. ⌜ Below (source (now (tree .entry)) (now (text .entry))) (now (pool .entry)) left (slot (node (from Savepoint 10))) (p, now (out .entry)) (q, now (out .exit)) ⌝ }
 {
     let r = record::read(tree, p.next);
     if left == 0 {
-        return run(p, out, words, tree, text);
+        return run(p, out, pool, tree, text);
     }
     let q = pass(p, tree);
     let first = first_flag(r.flags);
     let second = second_flag(r.flags);
     if r.kind == SAVEPOINT {
-        return word_run(q, out, words, tree, text, TK_SAVEPOINT);
+        return word_run(q, out, pool, tree, text, TK_SAVEPOINT);
     }
     if r.kind == SELECT_STMT {
-        return select(q, out, words, tree, text, left - 1);
+        return select(q, out, pool, tree, text, left - 1);
     }
     if r.kind == UPDATE {
-        return update(q, out, words, tree, text, left - 1);
+        return update(q, out, pool, tree, text, left - 1);
     }
     if r.kind == VACUUM {
-        return vacuum(q, out, words, tree, text);
+        return vacuum(q, out, pool, tree, text);
     }
     if r.kind == CREATE_TYPE {
-        return create_type(q, out, words, tree, text, left - 1, first);
+        return create_type(q, out, pool, tree, text, left - 1, first);
     }
     if r.kind == CREATE_DOMAIN {
-        return create_domain(q, out, words, tree, text, left - 1, first, second);
+        return create_domain(q, out, pool, tree, text, left - 1, first, second);
     }
     if r.kind == DROP_TYPE {
-        return drop_type(q, out, words, tree, text, first);
+        return drop_type(q, out, pool, tree, text, first);
     }
     if r.kind == CREATE_SEQUENCE {
-        return create_sequence(q, out, words, tree, text, first, second);
+        return create_sequence(q, out, pool, tree, text, first, second);
     }
     if r.kind == DROP_SEQUENCE {
-        return drop_sequence(q, out, words, tree, text, first);
+        return drop_sequence(q, out, pool, tree, text, first);
     }
     if r.kind == DROP_DOMAIN {
-        return drop_domain(q, out, words, tree, text, first);
+        return drop_domain(q, out, pool, tree, text, first);
     }
-    run(p, out, words, tree, text)
+    run(p, out, pool, tree, text)
 }
 
 // Stmt (32 to 64).
-pub fn stmt(p: Pen, out: &mut [u8], words: &[u8], tree: &[u8], text: &[u8], left: usize) -> Pen
-    ensures { λ q. ⌜ Below (source (now (tree .entry)) (now (text .entry))) (now (words .entry)) left (slot statement) (p, now (out .entry)) (q, now (out .exit)) ⌝ }
+pub fn stmt(p: Pen, out: &mut [u8], pool: &[u8], tree: &[u8], text: &[u8], left: usize) -> Pen
+    ensures { λ q. ⌜ Below (source (now (tree .entry)) (now (text .entry))) (now (pool .entry)) left (slot statement) (p, now (out .entry)) (q, now (out .exit)) ⌝ }
 {
     let r = record::read(tree, p.next);
     if r.kind < DELETE {
-        return stmt_to_create_virtual_table(p, out, words, tree, text, left);
+        return stmt_to_create_virtual_table(p, out, pool, tree, text, left);
     }
     if r.kind < SAVEPOINT {
-        return stmt_to_rollback(p, out, words, tree, text, left);
+        return stmt_to_rollback(p, out, pool, tree, text, left);
     }
-    stmt_to_drop_domain(p, out, words, tree, text, left)
+    stmt_to_drop_domain(p, out, pool, tree, text, left)
 }

@@ -25,90 +25,90 @@ use spelling::token::TK_TRANSACTION;
 use spelling::token::TK_VACUUM;
 
 // A word and a RUN: Detach, Release and Savepoint (44, 53 and 55); Analyze and Reindex (33 and 51), which may have none.
-pub fn word_run(p: Pen, out: &mut [u8], words: &[u8], tree: &[u8], text: &[u8], kind: u16) -> Pen
-    ensures { λ q. ⌜ Always (source (now (tree .entry)) (now (text .entry))) (now (words .entry)) (word' kind · slot run') (p, now (out .entry)) (q, now (out .exit)) ⌝ }
+pub fn word_run(p: Pen, out: &mut [u8], pool: &[u8], tree: &[u8], text: &[u8], kind: u16) -> Pen
+    ensures { λ q. ⌜ Always (source (now (tree .entry)) (now (text .entry))) (now (pool .entry)) (word' kind · slot run') (p, now (out .entry)) (q, now (out .exit)) ⌝ }
 {
-    let q = word(p, out, words, kind);
-    run(q, out, words, tree, text)
+    let q = word(p, out, pool, kind);
+    run(q, out, pool, tree, text)
 }
 
 // AlterTable (32).
 pub fn alter_table(
     p: Pen,
     out: &mut [u8],
-    words: &[u8],
+    pool: &[u8],
     tree: &[u8],
     text: &[u8],
     left: usize,
 ) -> Pen
-    ensures { λ q. ⌜ Below (source (now (tree .entry)) (now (text .entry))) (now (words .entry)) left (shape AlterTable) (p, now (out .entry)) (q, now (out .exit)) ⌝ }
+    ensures { λ q. ⌜ Below (source (now (tree .entry)) (now (text .entry))) (now (pool .entry)) left (shape AlterTable) (p, now (out .entry)) (q, now (out .exit)) ⌝ }
 {
-    let q = word(p, out, words, TK_ALTER);
-    let q = word(q, out, words, TK_TABLE);
-    let q = run(q, out, words, tree, text);
-    alter_table_body(q, out, words, tree, text, left)
+    let q = word(p, out, pool, TK_ALTER);
+    let q = word(q, out, pool, TK_TABLE);
+    let q = run(q, out, pool, tree, text);
+    alter_table_body(q, out, pool, tree, text, left)
 }
 
 // Attach (34).
-pub fn attach(p: Pen, out: &mut [u8], words: &[u8], tree: &[u8], text: &[u8]) -> Pen
-    ensures { λ q. ⌜ Always (source (now (tree .entry)) (now (text .entry))) (now (words .entry)) (shape Attach) (p, now (out .entry)) (q, now (out .exit)) ⌝ }
+pub fn attach(p: Pen, out: &mut [u8], pool: &[u8], tree: &[u8], text: &[u8]) -> Pen
+    ensures { λ q. ⌜ Always (source (now (tree .entry)) (now (text .entry))) (now (pool .entry)) (shape Attach) (p, now (out .entry)) (q, now (out .exit)) ⌝ }
 {
-    let q = word(p, out, words, TK_ATTACH);
-    let q = run(q, out, words, tree, text);
-    let q = word(q, out, words, TK_AS);
-    let q = run(q, out, words, tree, text);
-    clause(q, out, words, tree, text, TK_KEY)
+    let q = word(p, out, pool, TK_ATTACH);
+    let q = run(q, out, pool, tree, text);
+    let q = word(q, out, pool, TK_AS);
+    let q = run(q, out, pool, tree, text);
+    clause(q, out, pool, tree, text, TK_KEY)
 }
 
 // Begin (35).
-pub fn begin(p: Pen, out: &mut [u8], words: &[u8], tree: &[u8], text: &[u8]) -> Pen
-    ensures { λ q. ⌜ Always (source (now (tree .entry)) (now (text .entry))) (now (words .entry)) (shape Begin) (p, now (out .entry)) (q, now (out .exit)) ⌝ }
+pub fn begin(p: Pen, out: &mut [u8], pool: &[u8], tree: &[u8], text: &[u8]) -> Pen
+    ensures { λ q. ⌜ Always (source (now (tree .entry)) (now (text .entry))) (now (pool .entry)) (shape Begin) (p, now (out .entry)) (q, now (out .exit)) ⌝ }
 {
-    let q = word(p, out, words, TK_BEGIN);
-    let q = run(q, out, words, tree, text);
-    clause(q, out, words, tree, text, TK_TRANSACTION)
+    let q = word(p, out, pool, TK_BEGIN);
+    let q = run(q, out, pool, tree, text);
+    clause(q, out, pool, tree, text, TK_TRANSACTION)
 }
 
 // Commit (36).
-pub fn commit(p: Pen, out: &mut [u8], words: &[u8], tree: &[u8], text: &[u8]) -> Pen
-    ensures { λ q. ⌜ Always (source (now (tree .entry)) (now (text .entry))) (now (words .entry)) (shape Commit) (p, now (out .entry)) (q, now (out .exit)) ⌝ }
+pub fn commit(p: Pen, out: &mut [u8], pool: &[u8], tree: &[u8], text: &[u8]) -> Pen
+    ensures { λ q. ⌜ Always (source (now (tree .entry)) (now (text .entry))) (now (pool .entry)) (shape Commit) (p, now (out .entry)) (q, now (out .exit)) ⌝ }
 {
-    let q = word(p, out, words, TK_COMMIT);
-    clause(q, out, words, tree, text, TK_TRANSACTION)
+    let q = word(p, out, pool, TK_COMMIT);
+    clause(q, out, pool, tree, text, TK_TRANSACTION)
 }
 
 // Pragma (50).
-pub fn pragma(p: Pen, out: &mut [u8], words: &[u8], tree: &[u8], text: &[u8]) -> Pen
-    ensures { λ q. ⌜ Always (source (now (tree .entry)) (now (text .entry))) (now (words .entry)) (shape Pragma) (p, now (out .entry)) (q, now (out .exit)) ⌝ }
+pub fn pragma(p: Pen, out: &mut [u8], pool: &[u8], tree: &[u8], text: &[u8]) -> Pen
+    ensures { λ q. ⌜ Always (source (now (tree .entry)) (now (text .entry))) (now (pool .entry)) (shape Pragma) (p, now (out .entry)) (q, now (out .exit)) ⌝ }
 {
-    let q = word(p, out, words, TK_PRAGMA);
-    let q = run(q, out, words, tree, text);
-    run(q, out, words, tree, text)
+    let q = word(p, out, pool, TK_PRAGMA);
+    let q = run(q, out, pool, tree, text);
+    run(q, out, pool, tree, text)
 }
 
 // Optimize (52).
-pub fn optimize(p: Pen, out: &mut [u8], words: &[u8], tree: &[u8], text: &[u8]) -> Pen
-    ensures { λ q. ⌜ Always (source (now (tree .entry)) (now (text .entry))) (now (words .entry)) (shape Optimize) (p, now (out .entry)) (q, now (out .exit)) ⌝ }
+pub fn optimize(p: Pen, out: &mut [u8], pool: &[u8], tree: &[u8], text: &[u8]) -> Pen
+    ensures { λ q. ⌜ Always (source (now (tree .entry)) (now (text .entry))) (now (pool .entry)) (shape Optimize) (p, now (out .entry)) (q, now (out .exit)) ⌝ }
 {
-    let q = word(p, out, words, TK_OPTIMIZE);
-    let q = word(q, out, words, TK_INDEX);
-    run(q, out, words, tree, text)
+    let q = word(p, out, pool, TK_OPTIMIZE);
+    let q = word(q, out, pool, TK_INDEX);
+    run(q, out, pool, tree, text)
 }
 
 // Rollback (54).
-pub fn rollback(p: Pen, out: &mut [u8], words: &[u8], tree: &[u8], text: &[u8]) -> Pen
-    ensures { λ q. ⌜ Always (source (now (tree .entry)) (now (text .entry))) (now (words .entry)) (shape Rollback) (p, now (out .entry)) (q, now (out .exit)) ⌝ }
+pub fn rollback(p: Pen, out: &mut [u8], pool: &[u8], tree: &[u8], text: &[u8]) -> Pen
+    ensures { λ q. ⌜ Always (source (now (tree .entry)) (now (text .entry))) (now (pool .entry)) (shape Rollback) (p, now (out .entry)) (q, now (out .exit)) ⌝ }
 {
-    let q = word(p, out, words, TK_ROLLBACK);
-    let q = clause(q, out, words, tree, text, TK_TRANSACTION);
-    clause(q, out, words, tree, text, TK_TO)
+    let q = word(p, out, pool, TK_ROLLBACK);
+    let q = clause(q, out, pool, tree, text, TK_TRANSACTION);
+    clause(q, out, pool, tree, text, TK_TO)
 }
 
 // Vacuum (58).
-pub fn vacuum(p: Pen, out: &mut [u8], words: &[u8], tree: &[u8], text: &[u8]) -> Pen
-    ensures { λ q. ⌜ Always (source (now (tree .entry)) (now (text .entry))) (now (words .entry)) (shape Vacuum) (p, now (out .entry)) (q, now (out .exit)) ⌝ }
+pub fn vacuum(p: Pen, out: &mut [u8], pool: &[u8], tree: &[u8], text: &[u8]) -> Pen
+    ensures { λ q. ⌜ Always (source (now (tree .entry)) (now (text .entry))) (now (pool .entry)) (shape Vacuum) (p, now (out .entry)) (q, now (out .exit)) ⌝ }
 {
-    let q = word(p, out, words, TK_VACUUM);
-    let q = run(q, out, words, tree, text);
-    clause(q, out, words, tree, text, TK_INTO)
+    let q = word(p, out, pool, TK_VACUUM);
+    let q = run(q, out, pool, tree, text);
+    clause(q, out, pool, tree, text, TK_INTO)
 }

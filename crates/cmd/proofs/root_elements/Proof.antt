@@ -13,12 +13,12 @@ use Rattle.cmd.proofs.root_elements.Statement.{statement}
 use Rattle.cmd.proofs.root_elements.Tie as tie
 
 abbrev Inv-loop : tie.InvT-loop
-Inv-loop out₀ words tree text left n q₀ rest₀ lead₀ out q rest lead =
-    put words (rows (placed (source tree text) (node (source tree text) left) (one rootKinds)) (opt lead comma) comma rest (q .next)) (q, out)
-    ≡ put words (rows (placed (source tree text) (node (source tree text) left) (one rootKinds)) [] comma n (q₀ .next)) (q₀, out₀)
+Inv-loop out₀ pool tree text left n q₀ rest₀ lead₀ out q rest lead =
+    put pool (rows (placed (source tree text) (node (source tree text) left) (one rootKinds)) (opt lead comma) comma rest (q .next)) (q, out)
+    ≡ put pool (rows (placed (source tree text) (node (source tree text) left) (one rootKinds)) [] comma n (q₀ .next)) (q₀, out₀)
 
 abbrev μ-loop : tie.MeasureT-loop
-μ-loop out₀ words tree text left n q₀ rest₀ lead₀ out q rest lead = rest
+μ-loop out₀ pool tree text left n q₀ rest₀ lead₀ out q rest lead = rest
 
 loop-again : tie.Need-loop-again Inv-loop μ-loop
 unfolding means

@@ -10,10 +10,10 @@ use Rattle.corners.proofs.pairs.Statement.{statement}
 use Rattle.corners.proofs.pairs.Tie as tie
 
 abbrev Inv-loop : tie.InvT-loop
-Inv-loop out₀ words n q₀ rest₀ out q rest = put words (say (pairs rest) (q .next)) (q, out) ≡ put words (say (pairs n) (q₀ .next)) (q₀, out₀)
+Inv-loop out₀ pool n q₀ rest₀ out q rest = put pool (say (pairs rest) (q .next)) (q, out) ≡ put pool (say (pairs n) (q₀ .next)) (q₀, out₀)
 
 abbrev μ-loop : tie.MeasureT-loop
-μ-loop out₀ words n q₀ rest₀ out q rest = rest
+μ-loop out₀ pool n q₀ rest₀ out q rest = rest
 
 loop-again : tie.Need-loop-again Inv-loop μ-loop
 loop-again c =

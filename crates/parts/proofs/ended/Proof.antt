@@ -13,12 +13,12 @@ use Rattle.parts.proofs.ended.Statement.{statement}
 use Rattle.parts.proofs.ended.Tie as tie
 
 abbrev Inv-loop : tie.InvT-loop
-Inv-loop out₀ words tree text n q₀ rest₀ out q rest =
+Inv-loop out₀ pool tree text n q₀ rest₀ out q rest =
     (d : ℕ)
-    → put words (rows (ended (source tree text) d) [] [] rest (q .next)) (q, out) ≡ put words (rows (ended (source tree text) d) [] [] n (q₀ .next)) (q₀, out₀)
+    → put pool (rows (ended (source tree text) d) [] [] rest (q .next)) (q, out) ≡ put pool (rows (ended (source tree text) d) [] [] n (q₀ .next)) (q₀, out₀)
 
 abbrev μ-loop : tie.MeasureT-loop
-μ-loop out₀ words tree text n q₀ rest₀ out q rest = rest
+μ-loop out₀ pool tree text n q₀ rest₀ out q rest = rest
 
 loop-holds : tie.Need-loop-holds Inv-loop μ-loop
 loop-holds c d = refl

@@ -13,13 +13,13 @@ use Rattle.parts.proofs.runs.Statement.{statement}
 use Rattle.parts.proofs.runs.Tie as tie
 
 abbrev Inv-loop : tie.InvT-loop
-Inv-loop out₀ words tree text n sep q₀ rest₀ lead₀ out q rest lead =
+Inv-loop out₀ pool tree text n sep q₀ rest₀ lead₀ out q rest lead =
     (d : ℕ)
-    → put words (rows (placed (source tree text) (node (source tree text) d) run) (opt lead comma) (opt sep comma) rest (q .next)) (q, out)
-    ≡ put words (rows (placed (source tree text) (node (source tree text) d) run) [] (opt sep comma) n (q₀ .next)) (q₀, out₀)
+    → put pool (rows (placed (source tree text) (node (source tree text) d) run) (opt lead comma) (opt sep comma) rest (q .next)) (q, out)
+    ≡ put pool (rows (placed (source tree text) (node (source tree text) d) run) [] (opt sep comma) n (q₀ .next)) (q₀, out₀)
 
 abbrev μ-loop : tie.MeasureT-loop
-μ-loop out₀ words tree text n sep q₀ rest₀ lead₀ out q rest lead = rest
+μ-loop out₀ pool tree text n sep q₀ rest₀ lead₀ out q rest lead = rest
 
 loop-holds : tie.Need-loop-holds Inv-loop μ-loop
 loop-holds c d = refl

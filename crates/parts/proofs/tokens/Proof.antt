@@ -11,11 +11,11 @@ use Rattle.parts.proofs.tokens.Statement.{statement}
 use Rattle.parts.proofs.tokens.Tie as tie
 
 abbrev Inv-loop : tie.InvT-loop
-Inv-loop out₀ words tree text n q₀ rest₀ out q rest =
-    put words (rows (tokenAt (source tree text)) [] [] rest (q .next)) (q, out) ≡ put words (rows (tokenAt (source tree text)) [] [] n (q₀ .next)) (q₀, out₀)
+Inv-loop out₀ pool tree text n q₀ rest₀ out q rest =
+    put pool (rows (tokenAt (source tree text)) [] [] rest (q .next)) (q, out) ≡ put pool (rows (tokenAt (source tree text)) [] [] n (q₀ .next)) (q₀, out₀)
 
 abbrev μ-loop : tie.MeasureT-loop
-μ-loop out₀ words tree text n q₀ rest₀ out q rest = rest
+μ-loop out₀ pool tree text n q₀ rest₀ out q rest = rest
 
 loop-again : tie.Need-loop-again Inv-loop μ-loop
 loop-again c =

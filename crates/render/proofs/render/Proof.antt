@@ -21,12 +21,12 @@ returns-2 c =
 fair-copy-requires : tie.Need-fair-copy-requires
 fair-copy-requires c κs =
     let at-args = c .before .before .before .before .before .before .before .before .before .before .before .before .before .before .before .args in
-    let at-table = c .before .before .before .before .before .before .before .before .before .before .before .table in
+    let at-pool = c .before .before .before .before .before .before .before .before .before .before .before .pool in
     let at-measured = c .before .before .before .before .before .measured in
     let at-draft = c .before .before .before .before .before .before .before .before .check-and-measure in
     let at-if1 = c .before .before .before .if1 in
     let done = rw (at-measured .given .1) at (at-draft .ensures .measures) in
-    (at-table .ensures, (length-is (at-args .out .now) done, (at-if1 .left, at-draft .ensures .drafted _ (at-measured .given .1))))
+    (at-pool .ensures, (length-is (at-args .out .now) done, (at-if1 .left, at-draft .ensures .drafted _ (at-measured .given .1))))
 
 returns-3 : tie.Need-returns-3
 returns-3 c =

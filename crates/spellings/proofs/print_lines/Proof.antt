@@ -5,10 +5,10 @@ use Rattle.spellings.proofs.print_lines.Statement.{statement}
 use Rattle.spellings.proofs.print_lines.Tie as tie
 
 abbrev Inv-loop : tie.InvT-loop
-Inv-loop table number₀ number = number ≤ 256
+Inv-loop pool number₀ number = number ≤ 256
 
 abbrev μ-loop : tie.MeasureT-loop
-μ-loop table number₀ number = 256 - number
+μ-loop pool number₀ number = 256 - number
 
 pub print-lines-spec : {M : Type 1} → statement M
 print-lines-spec =

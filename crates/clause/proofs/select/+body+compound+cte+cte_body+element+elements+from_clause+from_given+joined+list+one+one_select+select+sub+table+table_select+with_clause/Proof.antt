@@ -477,12 +477,12 @@ element-met t =
 
 -- what is left of the row from here is what was to be written at the start
 abbrev elements-Inv-loop : elements-lts.InvT-loop
-elements-Inv-loop out₀ words tree text left kind n sep q₀ rest₀ lead₀ out q rest lead =
-    put words (rows (placed (source tree text) (node (source tree text) left) (grammar.node (held kind))) (opt lead comma) (opt sep comma) rest (q .next)) (q, out)
-    ≡ put words (rows (placed (source tree text) (node (source tree text) left) (grammar.node (held kind))) [] (opt sep comma) n (q₀ .next)) (q₀, out₀)
+elements-Inv-loop out₀ pool tree text left kind n sep q₀ rest₀ lead₀ out q rest lead =
+    put pool (rows (placed (source tree text) (node (source tree text) left) (grammar.node (held kind))) (opt lead comma) (opt sep comma) rest (q .next)) (q, out)
+    ≡ put pool (rows (placed (source tree text) (node (source tree text) left) (grammar.node (held kind))) [] (opt sep comma) n (q₀ .next)) (q₀, out₀)
 
 abbrev elements-μ-loop : elements-lts.MeasureT-loop
-elements-μ-loop out₀ words tree text left kind n sep q₀ rest₀ lead₀ out q rest lead = rest
+elements-μ-loop out₀ pool tree text left kind n sep q₀ rest₀ lead₀ out q rest lead = rest
 
 abbrev elements-calls : ℕ → elements-lts.Claims
 elements-calls t = (comma-if-reads.Asked, comma-if-reads.Learnt, element-below t, element.Post)
