@@ -1,15 +1,15 @@
 -- Laws of the parts that the renderers share.
-use Prim.Native.Nat.{ℕ, _+_, _-_, _%_, _<_}
+use Prim.Native.Nat.{ℕ, _+_, _-_, _%_, _≤_, _<_}
 use native.Mathlib.Omega.{arith}
 use native.Mathlib.Nat.{add-sub-cancel-left}
 use Prim.Native.String.{String}
-use mathlib.Core.Path.{_≡_, sym, _∙_}
+use mathlib.Core.Path.{_≡_, refl, sym, _∙_}
 use mathlib.Core.List.{List, [], _∷_}
 use mathlib.Core.Bool.{Bool, true, false, cond}
 use lib.Dec.{leb}
 use lib.ListN.{length, take, drop, length-drop, drop-of-length-le}
 use lib.Seq.{take-all, take-nil}
-use borrow.Author.Tests.{eq-eqb, ne-eqb}
+use borrow.Author.Tests.{eq-eqb, ne-eqb, le-leb, lt-leb}
 use Rattle.record.specs.Record.{recordAt}
 use Rattle.record.specs.declared.Record.{Record}
 use Rattle.grammar.specs.Kind.{NONE, LIST, TOKEN}
@@ -48,11 +48,21 @@ module _ {t w o : List ℕ} {k : Record} {p q : Pen} (x : List ℕ) (n : ℕ) (r
   pub of-this : {b : Spot} (f : Record → List Token) → k .kind ≡ n → Says w (f k) (q, o) b → Puts w (ofKind (source t x) n (p .next) (f (recordAt t (p .next)))) (p, o) b
   of-this f z h = rw (← read, eq-eqb (k .kind) n z, ← index past x) (entered past (h .puts))
 
--- a TOKEN
-pub a-token : {t w o v : List ℕ} {k : Record} {p q : Pen} {b : Spot} (x : List ℕ) → k ≡ recordAt t (p .next) → Past t p q → k .kind ≡ TOKEN → v ≡ part (source t x) k
-    → Says w (record { kind = k .flags % 0x8000; value = sink.given (leb 0x8000 (k .flags)) v } ∷ []) (q, o) b → Puts w (tokenAt (source t x) (p .next)) (p, o) b
-unfolding tokenOf
-a-token {t} x read past z is h = of-this x TOKEN read past (λ k. tokenOf (source t x) k ∷ []) z (rw is at h)
+-- a TOKEN, without a value and with one
+module _ {t w o : List ℕ} {k : Record} {p q : Pen} {b : Spot} (x : List ℕ) (read : k ≡ recordAt t (p .next)) (past : Past t p q) (z : k .kind ≡ TOKEN) where
+  a-token : {v : List ℕ} → v ≡ part (source t x) k → Says w (record { kind = k .flags % 0x8000; value = sink.given (leb 0x8000 (k .flags)) v } ∷ []) (q, o) b
+      → Puts w (tokenAt (source t x) (p .next)) (p, o) b
+  unfolding tokenOf
+  a-token is h = of-this x TOKEN read past (λ k. tokenOf (source t x) k ∷ []) z (rw is at h)
+
+  pub bare-token : k .flags < 0x8000 → Says w (record { kind = k .flags; value = sink.given false [] } ∷ []) (q, o) b → Puts w (tokenAt (source t x) (p .next)) (p, o) b
+  bare-token l h =
+      let e : k .flags % 0x8000 ≡ k .flags = omega arith in
+      a-token refl (rw (e, lt-leb 0x8000 (k .flags) l) h)
+
+  pub valued-token : {v : List ℕ} → 0x8000 ≤ k .flags → v ≡ part (source t x) k → Says w (record { kind = k .flags % 0x8000; value = sink.given true v } ∷ []) (q, o) b
+      → Puts w (tokenAt (source t x) (p .next)) (p, o) b
+  valued-token l is h = a-token is (rw (le-leb 0x8000 (k .flags) l) h)
 
 -- ---- a LIST
 module _ {t w o : List ℕ} {k : Record} {p q : Pen} (x : List ℕ) (f : ℕ → Out) (sep : List Token) (read : k ≡ recordAt t (p .next)) (past : Past t p q) where

@@ -60,8 +60,11 @@ fn token(p: Pen, out: &mut [u8], pool: &[u8], tree: &[u8], text: &[u8]) -> Pen
     if r.kind != TOKEN {
         return q;
     }
+    if r.flags < PRESENT {
+        return append(q, out, pool, r.flags, false, b"");
+    }
     let value = part(text, r.start as usize, r.len as usize);
-    append(q, out, pool, r.flags % PRESENT, PRESENT <= r.flags, value)
+    append(q, out, pool, r.flags % PRESENT, true, value)
 }
 
 // So many TOKENs, one behind the other.

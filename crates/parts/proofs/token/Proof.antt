@@ -1,7 +1,7 @@
--- `parts::token` writes the token that the record is.
+-- `parts::token` writes the token that the record is, without a value or with one.
 use borrow.Author.Needs.{needs}
 use Rattle.grammar.specs.Kind.{TOKEN}
-use Rattle.parts.specs.Laws.{of-other, a-token}
+use Rattle.parts.specs.Laws.{of-other, bare-token, valued-token}
 use Rattle.parts.proofs.token.Statement.{statement}
 use Rattle.parts.proofs.token.Tie as tie
 
@@ -15,16 +15,30 @@ returns c =
 returns-2 : tie.Need-returns-2
 returns-2 c =
     let at-append = c .before .before in
-    let at-part = at-append .before .before .before .before in
-    let at-if1 = at-part .before .before .before in
+    let at-if2 = at-append .before .before .before in
+    let at-if1 = at-if2 .before .before in
     let at-pass = at-if1 .before .before in
     let at-read = at-pass .before in
     let at-args = at-read .before .before .before .before .before in
-    a-token (at-args .args .text .now) (at-read .read .ensures) (at-pass .pass .ensures) (at-if1 .if1 .left) (at-part .part .ensures) (at-append .append .ensures)
+    bare-token (at-args .args .text .now) (at-read .read .ensures) (at-pass .pass .ensures) (at-if1 .if1 .left) (at-if2 .if2 .taken)
+    (at-append .append .ensures)
+
+returns-3 : tie.Need-returns-3
+returns-3 c =
+    let at-append = c .before .before in
+    let at-part = at-append .before .before .before in
+    let at-if2 = at-part .before .before .before in
+    let at-if1 = at-if2 .before .before in
+    let at-pass = at-if1 .before .before in
+    let at-read = at-pass .before in
+    let at-args = at-read .before .before .before .before .before in
+    valued-token (at-args .args .text .now) (at-read .read .ensures) (at-pass .pass .ensures) (at-if1 .if1 .left) (at-if2 .if2 .left)
+    (at-part .part .ensures) (at-append .append2 .ensures)
 
 pub token-spec : {M : Type 1} → statement M
 token-spec =
     tie.close
     (tie.spec
-    (λ c κs. search needs) (λ c κs. search needs) returns (λ c. search needs) (λ c. search needs)
-    (λ c κs. search needs) (λ c κs. search needs) (λ c. search needs) returns-2)
+    (λ c κs. search needs) (λ c κs. search needs) returns (λ c. search needs) (λ c κs. search needs)
+    (λ c. search needs) returns-2 (λ c. search needs) (λ c. search needs) (λ c κs. search needs)
+    (λ c κs. search needs) (λ c. search needs) returns-3)
