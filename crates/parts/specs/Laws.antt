@@ -16,6 +16,7 @@ use Rattle.grammar.specs.Kind.{NONE, LIST, TOKEN}
 use Rattle.grammar.specs.Shape.{Class, said, slot, commas, row, given, _·_}
 use Rattle.grammar.specs.Grammar.{run, maybe}
 use Rattle.laws.specs.Text.{ascii}
+use Rattle.spelling.specs.Token.{TK-ID}
 use Rattle.record.specs.Laws.{nothing as blank}
 use Rattle.tokens.specs.Corners.{id}
 use Rattle.stream.specs.Stream.{Token}
@@ -63,6 +64,9 @@ module _ {t w o : List ℕ} {k : Record} {p q : Pen} {b : Spot} (x : List ℕ) (
   pub valued-token : {v : List ℕ} → 0x8000 ≤ k .flags → v ≡ part (source t x) k → Says w (record { kind = k .flags % 0x8000; value = sink.given true v } ∷ []) (q, o) b
       → Puts w (tokenAt (source t x) (p .next)) (p, o) b
   valued-token l is h = a-token is (rw (le-leb 0x8000 (k .flags) l) h)
+
+  pub id-token : {v : List ℕ} → 0x8000 ≤ k .flags → k .flags % 0x8000 ≡ TK-ID → v ≡ part (source t x) k → Says w (id v ∷ []) (q, o) b → Puts w (tokenAt (source t x) (p .next)) (p, o) b
+  id-token l e is h = valued-token l is (rw e h)
 
 -- ---- a LIST
 module _ {t w o : List ℕ} {k : Record} {p q : Pen} (x : List ℕ) (f : ℕ → Out) (sep : List Token) (read : k ≡ recordAt t (p .next)) (past : Past t p q) where

@@ -51,7 +51,7 @@ pub fn part(text: &[u8], start: usize, len: usize) -> &[u8]
     &text[start..end]
 }
 
-// The next record, a TOKEN.
+// The next record, a TOKEN. Most have no value, or are a TK_ID, which has no spelling to look up.
 fn token(p: Pen, out: &mut [u8], pool: &[u8], tree: &[u8], text: &[u8]) -> Pen
     ensures { λ q. ⌜ Puts (now (pool .entry)) (tokenAt (source (now (tree .entry)) (now (text .entry))) (p .next)) (p, now (out .entry)) (q, now (out .exit)) ⌝ }
 {
@@ -64,7 +64,11 @@ fn token(p: Pen, out: &mut [u8], pool: &[u8], tree: &[u8], text: &[u8]) -> Pen
         return append(q, out, pool, r.flags, false, b"");
     }
     let value = part(text, r.start as usize, r.len as usize);
-    append(q, out, pool, r.flags % PRESENT, true, value)
+    let kind = r.flags % PRESENT;
+    if kind == TK_ID {
+        return said(q, out, pool, value);
+    }
+    append(q, out, pool, kind, true, value)
 }
 
 // So many TOKENs, one behind the other.
