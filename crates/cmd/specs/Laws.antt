@@ -12,6 +12,7 @@ use Rattle.record.specs.declared.Record.{Record}
 use Rattle.grammar.specs.Kind.{LIST, RUN, Cmd, AlterTable, Select, ColumnDefinition, NamedTableConstraint}
 use Rattle.grammar.specs.Shape.{one, slot}
 use Rattle.grammar.specs.Grammar.{from, node, shape, root, rootKinds}
+use Rattle.grammar.specs.Groups.{before-all, behind-all, inside, among-both, or-none}
 use Rattle.grammar.specs.Slots.{allowed}
 use Rattle.stream.specs.declared.Sink.{Sink}
 use Rattle.tokens.specs.Tokens as tokens
@@ -20,7 +21,6 @@ use Rattle.pen.specs.declared.Pen.{Pen}
 use Rattle.pen.specs.Pen.{source, Spot, Past, emit, put, Writes}
 use Rattle.pen.specs.Places.{index, entered, alike}
 use Rattle.parts.specs.Laws.{a-list}
-use Rattle.stmt.specs.Groups.{before-all, behind-all, inside, among-both, or-none}
 use Rattle.cmd.specs.Root.{lateClauses, RootRow, rootOut, Rooted}
 
 -- ---- a group within another: kinds lo to hi are of both

@@ -1,6 +1,7 @@
 pub mod Kind
 pub mod Shape
 pub mod Grammar
+pub mod Groups
 pub mod Slots
 pub mod Classes
 pub mod Packed

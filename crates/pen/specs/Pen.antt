@@ -66,6 +66,10 @@ Flag bit flags on = (r : Record) → flags ≡ r .flags → on ≡ flagged bit r
 abbrev pub Under : Bool → (ℕ → Shape) → List ℕ → Spot → Spot → Type 0
 Under on s w a b = (e : Source) (d : ℕ) (r : Record) (bit : ℕ) → on ≡ flagged bit r → Writes e w d r (s bit) a b
 
+-- a shape of a record with these flags
+abbrev pub IfFlags : ℕ → Shape → List ℕ → Spot → Spot → Type 0
+IfFlags flags s w a b = (e : Source) (d : ℕ) (r : Record) → flags ≡ r .flags → Writes e w d r s a b
+
 -- for bytes that are written as a text in an entry
 abbrev pub WithText : List ℕ → (String → Type 0) → Type 0
 WithText v f = (s : String) → v ≡ ascii s → f s

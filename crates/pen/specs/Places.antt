@@ -1,4 +1,4 @@
--- The ways through a renderer of a place, of an optional part and of a part under a flag: one law each.
+-- The ways through a renderer of a place, of an optional part and of a part under a flag or a value of the flags: one law each.
 use Prim.Native.Nat.{ℕ, zero, suc, _+_, _-_, _≤_}
 use native.Mathlib.Omega.{arith}
 use native.Mathlib.Numerals.{sub-one}
@@ -12,7 +12,7 @@ use Rattle.laws.specs.Among.{among, all}
 use Rattle.record.specs.Record.{recordAt}
 use Rattle.record.specs.declared.Record.{Record}
 use Rattle.grammar.specs.Kind.{NONE, TOKEN, RUN, TEXT}
-use Rattle.grammar.specs.Shape.{Class, one, Shape, when, slot, given, filled, _·_}
+use Rattle.grammar.specs.Shape.{Class, one, Shape, when, is, slot, given, filled, _·_}
 use Rattle.grammar.specs.Grammar.{run, text, node, shape}
 use Rattle.grammar.specs.Slots.{allowed}
 use Rattle.stream.specs.Stream.{Token}
@@ -50,6 +50,16 @@ module _ {e : Source} {w : List ℕ} {d : ℕ} {r : Record} {s : Shape} {a : Spo
   pub not-under : on ≡ false → Writes e w d r (when bit s) a a
   unfolding means put emit
   not-under so = record { puts = record { is = rw (← h, so) } }
+
+-- ---- flags of this value, or of another
+module _ {e : Source} {w : List ℕ} {d : ℕ} {r : Record} {s : Shape} {a : Spot} {flags : ℕ} (n : ℕ) (h : flags ≡ r .flags) where
+  pub is-so : {b : Spot} → flags ≡ n → Writes e w d r s a b → Writes e w d r (is n s) a b
+  unfolding means
+  is-so z p = let t : eqb (r .flags) n ≡ true = eq-eqb (r .flags) n (sym h ∙ z) in record { puts = rw t (p .puts) }
+
+  pub is-not : (flags ≡ n → ⊥) → Writes e w d r (is n s) a a
+  unfolding means put emit
+  is-not z = let t : eqb (r .flags) n ≡ false = ne-eqb (r .flags) n (λ q. z (h ∙ q)) in record { puts = record { is = rw t } }
 
 -- ---- leaves write the same at any depth
 pub node-run : (e : Source) (d j : ℕ) → tokens.node e d RUN j ≡ rows (tokenAt e) [] [] (at e j .kids) (behind e j)
@@ -102,8 +112,8 @@ module _ {t x w o : List ℕ} {d : ℕ} {r k : Record} {p : Pen} (read : k ≡ r
   pub text-on : {v : List ℕ} {b : Spot} {q : Pen} → k .kind ≡ TEXT → Past t p q → v ≡ part (source t x) k → Says w (id v ∷ []) (q, o) b
       → Writes (source t x) w d r (slot text) (p, o) b
   unfolding means placed allowed
-  text-on {v} {b} {q} z past is h =
-      record { puts = rw (← read, z, node-text (source t x) d (p .next), ← read, ← is, ← index past x) (entered past (h .puts)) }
+  text-on {v} {b} {q} z past read-as h =
+      record { puts = rw (← read, z, node-text (source t x) d (p .next), ← read, ← read-as, ← index past x) (entered past (h .puts)) }
 
   -- a kind from 32 up: below it there is one record less
   pub node-on : (n : ℕ) {ks : List ℕ} {b : Spot} {q : Pen} → k .kind ≡ n → among n ks ≡ true → (d ≡ 0 → ⊥) → Past t p q

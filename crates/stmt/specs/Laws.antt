@@ -14,6 +14,7 @@ use Rattle.record.specs.declared.Record.{Record}
 use Rattle.grammar.specs.Kind.{RUN, REPLACE, AlterTable, Delete, Savepoint}
 use Rattle.grammar.specs.Shape.{Shape, word, slot, given, _·_}
 use Rattle.grammar.specs.Grammar.{from, run, maybe, clause, conflict, shape}
+use Rattle.grammar.specs.Groups.{before-all, behind-all, among-both, or-none}
 use Rattle.grammar.specs.Slots.{allowed}
 use Rattle.tokens.specs.Tokens.{Source, of, flagged, placed, means, node}
 use Rattle.pen.specs.declared.Pen.{Pen}
@@ -22,7 +23,6 @@ use Rattle.pen.specs.Laws.{_▹_, same, puts-next}
 use Rattle.pen.specs.Flags.{bits, first-bit, second-bit, third-bit}
 use Rattle.pen.specs.Places.{skipped}
 use Rattle.stmt.specs.Parts.{insertOr}
-use Rattle.stmt.specs.Groups.{before-all, behind-all, among-both, or-none}
 
 -- ---- the kinds of a group
 abbrev firsts : List ℕ

@@ -1,8 +1,8 @@
 -- `clause_to_as_select` writes the clause that stands there.
 use borrow.Author.Needs.{needs}
 use native.Mathlib.Omega.{arith}
+use Rattle.grammar.specs.Groups.{before-all, behind-all}
 use Rattle.pen.specs.Places.{other}
-use Rattle.stmt.specs.Groups.{before-all, behind-all}
 use Rattle.cmd.specs.Laws.{group-of, early-in}
 use Rattle.cmd.proofs.clause_to_as_select.Statement.{statement}
 use Rattle.cmd.proofs.clause_to_as_select.Tie as tie

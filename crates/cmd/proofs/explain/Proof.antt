@@ -1,7 +1,7 @@
 -- `explain` writes its word where the flags say so.
 use borrow.Author.Needs.{needs}
 use Rattle.grammar.specs.Grammar.{explain}
-use Rattle.clause.specs.Parts.{is-so, is-not}
+use Rattle.pen.specs.Places.{is-so, is-not}
 use Rattle.cmd.proofs.explain.Statement.{statement}
 use Rattle.cmd.proofs.explain.Tie as tie
 

@@ -1,9 +1,9 @@
 -- `explain_json` writes its words where the flags say so.
 use borrow.Author.Needs.{needs}
 use Rattle.pen.specs.Laws.{_▹_}
+use Rattle.pen.specs.Places.{is-so, is-not}
 use Rattle.grammar.specs.Grammar.{json}
 use Rattle.tokens.specs.Tokens.{means}
-use Rattle.clause.specs.Parts.{is-so, is-not}
 use Rattle.cmd.proofs.explain_json.Statement.{statement}
 use Rattle.cmd.proofs.explain_json.Tie as tie
 

@@ -1,7 +1,7 @@
 -- `explain_query_plan` writes its words where the flags say so.
 use borrow.Author.Needs.{needs}
 use Rattle.grammar.specs.Grammar.{queryPlan}
-use Rattle.clause.specs.Parts.{is-so, is-not}
+use Rattle.pen.specs.Places.{is-so, is-not}
 use Rattle.cmd.proofs.explain_query_plan.Statement.{statement}
 use Rattle.cmd.proofs.explain_query_plan.Tie as tie
 

@@ -1,7 +1,7 @@
 -- `select::materialized` writes its word where the flags say so.
 use borrow.Author.Needs.{needs}
 use Rattle.grammar.specs.Grammar.{materialized}
-use Rattle.clause.specs.Parts.{is-so, is-not}
+use Rattle.pen.specs.Places.{is-so, is-not}
 use Rattle.clause.proofs.select.materialized.Statement.{statement}
 use Rattle.clause.proofs.select.materialized.Tie as tie
 

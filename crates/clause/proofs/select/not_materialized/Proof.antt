@@ -1,8 +1,8 @@
 -- `select::not_materialized` writes its words where the flags say so.
 use borrow.Author.Needs.{needs}
 use Rattle.pen.specs.Laws.{_▹_}
+use Rattle.pen.specs.Places.{is-so, is-not}
 use Rattle.grammar.specs.Grammar.{notMaterialized}
-use Rattle.clause.specs.Parts.{is-so, is-not}
 use Rattle.clause.proofs.select.not_materialized.Statement.{statement}
 use Rattle.clause.proofs.select.not_materialized.Tie as tie
 
