@@ -258,7 +258,8 @@ fn valued(s: Sink, out: &mut [u8], has: bool, value: &[u8]) -> Sink
     }
 }
 
-// One token: a kind, word, which is the fixed spelling of its kind, and a value where has.
+// One token: a kind, word, which is the fixed spelling of its kind, and a value where has. Both are taken up before anything
+// is stored, so that where they lie and how long they are need not be read again.
 pub fn append(s: Sink, out: &mut [u8], kind: u16, word: &[u8], has: bool, value: &[u8]) -> Sink
     ensures { λ r. ⌜ (r, now (out .exit)) ≡ step (s, now (out .entry)) kind (now (word .entry)) (given has (now (value .entry))) ⌝ }
 {
