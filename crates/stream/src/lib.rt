@@ -3,13 +3,14 @@
 // The sink takes everything: a byte that finds no room in the output is only counted, so to measure is to
 // append to an empty output, and measuring and writing are one function.
 ghost use mathlib.Core.Path.{_≡_};
+ghost use mathlib.Core.Bool.{true};
 ghost use Prim.Native.Nat.{_+_, _≤_, _<_, min};
 ghost use mathlib.Core.List.{[], _∷_};
 ghost use lib.ListN.{length, take};
 ghost use lib.Seq.{sets};
 ghost use Rattle.stream.specs.Stream.{some, tight as tight', opens as opens', gap as gap', gapped, blob as blob', spelledBit, written, valuedBit};
-ghost use Rattle.spelling.specs.Token.{TK-STRING};
-ghost use Rattle.stream.specs.Sink.{count, pour, mark, given, between, step};
+ghost use Rattle.spelling.specs.Token.{TK-BLOB, TK-STRING};
+ghost use Rattle.stream.specs.Sink.{state, count, pour, mark, given, between, step};
 use spelling::token::TK_BLOB;
 use spelling::token::TK_COMMA;
 use spelling::token::TK_DOT;
@@ -272,6 +273,93 @@ pub fn append(s: Sink, out: &mut [u8], kind: u16, word: &[u8], has: bool, value:
         let u = spell(t, out, kind, w);
         valued(u, out, has, v)
     }
+}
+
+// Whether a space, a spelling and a value of so many bytes surely fit into an output of size bytes from at on.
+fn fits(at: usize, size: usize, word: usize, value: usize) -> bool
+    ensures { λ r. ⌜ (r ≡ true → at + (1 + (word + value)) ≤ size) ⌝ }
+{
+    if size < at {
+        return false;
+    }
+    let room = size - at;
+    if room <= word {
+        return false;
+    }
+    if room - word <= value {
+        return false;
+    }
+    true
+}
+
+// The space before a token, where there is one, with room for it: the count behind it.
+fn gap_at(spaced: bool, at: usize, out: &mut [u8], kind: u16) -> usize
+    requires { ⌜ at < length (now out) ⌝ }
+    ensures { λ r. ⌜ (r ≤ at + 1) × (state spaced r (now (out .exit)) ≡ pour (state spaced at (now (out .entry))) (gap' spaced kind)) ⌝ }
+{
+    if spaced | tight(kind) {
+        return at;
+    }
+    out[at] = SPACE;
+    at + 1
+}
+
+// The bit behind a spelling and no value.
+fn bit_after(spaced: bool, kind: u16, word: &[u8]) -> bool
+    ensures { λ r. ⌜ r ≡ spelledBit (gapped spaced kind) kind (now (word .entry)) ⌝ }
+{
+    if word.len() == 0 {
+        return spaced | !tight(kind);
+    }
+    opens(kind)
+}
+
+// A token that is no blob, where there is room for all of it: no piece asks for room again.
+fn lay_token(
+    spaced: bool,
+    at: usize,
+    out: &mut [u8],
+    kind: u16,
+    word: &[u8],
+    has: bool,
+    value: &[u8],
+) -> Sink
+    requires { ⌜ (kind ≡ TK-BLOB → ⊥) × (at + (1 + (length (now word) + length (now value))) ≤ length (now out)) ⌝ }
+    ensures { λ r. ⌜ (r, now (out .exit)) ≡ step (state spaced at (now (out .entry))) kind (now (word .entry)) (given has (now (value .entry))) ⌝ }
+{
+    let a = gap_at(spaced, at, out, kind);
+    lay(out, a, word);
+    let b = a + word.len();
+    if has {
+        lay(out, b, value);
+        return Sink {
+            spaced: blank::all_blank(value),
+            at: b + value.len(),
+        };
+    }
+    Sink {
+        spaced: bit_after(spaced, kind, word),
+        at: b,
+    }
+}
+
+// The same as append, for a caller that mostly has room: a token that surely fits is laid at once.
+pub fn append_within(
+    s: Sink,
+    out: &mut [u8],
+    kind: u16,
+    word: &[u8],
+    has: bool,
+    value: &[u8],
+) -> Sink
+    ensures { λ r. ⌜ (r, now (out .exit)) ≡ step (s, now (out .entry)) kind (now (word .entry)) (given has (now (value .entry))) ⌝ }
+{
+    if kind != TK_BLOB {
+        if fits(s.at, out.len(), word.len(), value.len()) {
+            return lay_token(s.spaced, s.at, out, kind, word, has, value);
+        }
+    }
+    append(s, out, kind, word, has, value)
 }
 
 // A value between quotes.
