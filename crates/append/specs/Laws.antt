@@ -7,9 +7,8 @@ use mathlib.Core.Bool.{Bool, true, false, not, cond, _&&_, and-false}
 use lib.Dec.{ltb}
 use lib.ListN.{length}
 use lib.Seq.{sets, sets-eq}
-use borrow.Rule.Slice.PartMut.{midOf, putMid}
 use native.Mathlib.Nat.{zero-add, suc-ne-zero}
-use borrow.Author.Tests.{lt-ltb, le-ltb, ltb-false, eq-eqb, ne-eqb}
+use borrow.Author.Tests.{lt-ltb, le-ltb, ltb-true, ltb-false, eq-eqb, ne-eqb}
 use Rattle.utf8.specs.Rfc3629 as utf8
 use Rattle.utf8.specs.Rfc3629.{Text, none, Encoded}
 use Rattle.utf8.specs.Laws as utf8laws
@@ -19,9 +18,7 @@ use Rattle.utf8.specs.declared.Encoding.{Encoding}
 use Rattle.utf8.specs.declared.Encoding.the-variants.{Valid}
 use Rattle.spelling.specs.Rows.{rows}
 use Rattle.spelling.specs.Spelling.{row, known, spelling}
-use Rattle.spelling.specs.Token.{TK-ID}
 use Rattle.laws.specs.First.{first, within, first-some, first-none, all-passed}
-use Rattle.laws.specs.Sets.{sets-within}
 use Rattle.stream.specs.Stream.{added, adds, leaves}
 use Rattle.stream.specs.Sink.{State, most, pour, mark, step, given}
 use Rattle.stream.specs.Laws.{count-fits}
@@ -32,7 +29,7 @@ use Rattle.append.specs.declared.Answer.the-variants.{Added, Malformed, 
 use Rattle.append.specs.declared.Check.{Check}
 use Rattle.append.specs.declared.Check.the-variants.{Fine, Refused}
 use Rattle.append.specs.Append.{Appends, numberOf, present, tokenOf, news, longest, broken, before, room, answerTo, recordAfter, outputAfter, number, place}
-use Rattle.append.specs.Steps.{Checks, Writes, emitted, counted}
+use Rattle.append.specs.Steps.{Checks, Ample, Surely, roomTest, andRoom, Verdict, Writes, emitted, counted}
 
 -- no bytes are a text
 no-bytes : (v : List ℕ) → length v ≡ 0 → Text v
@@ -79,32 +76,24 @@ module _ (rec : Stream) (size token : ℕ) (value : List ℕ) where
           fine h = record { encoding = e; encoded = en; is = rw (le-ltb size (rec .count) c, ← is-known, kn, ← is-present, st, le-ltb longest (length value) l, ← is, eq-eqb m 0 h) }
 
 -- ---- the bytes
-pub emits : (x : State) (b p : Bool) (part value word : List ℕ) (token k : ℕ) → k ≡ numberOf token → p ≡ present token
-    → x ≡ step (record { spaced = b; at = 0 }, part) k word (given p value) → x ≡ emitted b part token word value
+pub emits : (x : State) (b p : Bool) (at : ℕ) (out value word : List ℕ) (token k : ℕ) → k ≡ numberOf token → p ≡ present token
+    → x ≡ step (record { spaced = b; at = at }, out) k word (given p value) → x ≡ emitted b at out token word value
 unfolding emitted
-emits x b p part value word token k ek ep e = rw (ek, ep) at e
+emits x b p at out value word token k ek ep e = rw (ek, ep) at e
 
 -- the word that is looked up
 pub word-is : (word : List ℕ) (token k : ℕ) → k ≡ numberOf token → word ≡ spelling k → word ≡ spelling (numberOf token)
 word-is word token k e w = rw e at w
-
--- TK_ID has no spelling
-no-word : spelling TK-ID ≡ []
-unfolding spelling row rows
-no-word = refl
-
-pub word-none : (token k : ℕ) → k ≡ numberOf token → k ≡ TK-ID → [] ≡ spelling (numberOf token)
-word-none token k e h = sym (ap spelling (sym e ∙ h) ∙ no-word)
 
 -- ---- how many they are: a count never stops short of them
 pub news-counted : (b : Bool) (token : ℕ) (value : List ℕ) → length value < 2 ^ 63 → length (adds b (tokenOf token value)) ≤ most
 unfolding tokenOf
 news-counted b token value h = omega (arith, adds-length b (tokenOf token value), given-size (present token) value)
 
--- whatever part they are stored in
-pub counts : (x : State) (b : Bool) (part : List ℕ) (token : ℕ) (word value : List ℕ) → x ≡ emitted b part token word value → x .0 .at ≡ counted b token word value
-unfolding counted emitted step mark pour
-counts x b part token word value e = ap (λ (s : State). s .0 .at) e
+-- where nothing was before them
+pub counts : (x : State) (b : Bool) (token : ℕ) (word value : List ℕ) → x ≡ emitted b 0 [] token word value → x .0 .at ≡ counted b token word value
+unfolding counted
+counts x b token word value e = ap (λ (s : State). s .0 .at) e
 
 pub measured : (b : Bool) (token : ℕ) (word value : List ℕ) (n : ℕ) → length value < 2 ^ 63 → word ≡ spelling (numberOf token) → n ≡ counted b token word value
     → n ≡ length (adds b (tokenOf token value))
@@ -120,29 +109,45 @@ pub surely-fits : (rec : Stream) (token : ℕ) (value : List ℕ) (n : ℕ) → 
 unfolding news tokenOf
 surely-fits rec token value n h = omega (arith, adds-length (rec .spaced) (tokenOf token value), given-size (present token) value)
 
--- ---- 8, or the bytes
-pub no-room : (rec : Stream) (out : List ℕ) (token : ℕ) (value : List ℕ) (n : ℕ) → n ≡ length (news rec token value) → length out - rec .count < n
+-- ---- 8, or not
+pub ample-room : (rec : Stream) (size token : ℕ) (value : List ℕ) → Ample rec size (length value) → Fine ≡ roomTest rec size (length (news rec token value))
+ample-room rec size token value a =
+    let n = length (news rec token value) in
+    rw (le-ltb (size - rec .count) n (surely-fits rec token value (size - rec .count) (a .fits)))
+
+module _ (rec : Stream) (size token : ℕ) (value : List ℕ) (n : ℕ) (e : n ≡ length (news rec token value)) where
+  pub full : size - rec .count < n → Refused (NoRoom n) ≡ roomTest rec size (length (news rec token value))
+  full h = rw (← e, lt-ltb (size - rec .count) n h)
+
+  pub not-full : n ≤ size - rec .count → Fine ≡ roomTest rec size (length (news rec token value))
+  not-full h = rw (← e, le-ltb (size - rec .count) n h)
+
+no-room : (rec : Stream) (out : List ℕ) (token : ℕ) (value : List ℕ) (n : ℕ) → n ≡ length (news rec token value) → length out - rec .count < n
     → Writes rec out token value (NoRoom n) rec out
 unfolding room recordAfter outputAfter
 no-room rec out token value n e h =
     record { answers = rw (← e, lt-ltb (length out - rec .count) n h); leave = refl; writes = refl }
 
-pub added-all : (rec : Stream) (out : List ℕ) (token : ℕ) (word value : List ℕ) (n : ℕ) (x : State) → rec .count ≤ length out → word ≡ spelling (numberOf token)
-    → n ≡ length (news rec token value) → n ≤ length out - rec .count → x ≡ emitted (rec .spaced) (midOf (rec .count) (length out - rec .count) out) token word value
-    → Writes rec out token value (Added n) (record { spaced = x .0 .spaced; count = rec .count + n }) (putMid (rec .count) (length out - rec .count) out (x .1))
+-- ---- the bytes behind the count
+pub put-all : (rec : Stream) (out : List ℕ) (token : ℕ) (word value : List ℕ) (x : State) → rec .count ≤ length out → word ≡ spelling (numberOf token)
+    → length (news rec token value) ≤ length out - rec .count → length out ≤ most → x ≡ emitted (rec .spaced) (rec .count) out token word value
+    → (x .0 .at ≡ rec .count + length (news rec token value))
+    × Writes rec out token value (Added (x .0 .at - rec .count)) (record { spaced = x .0 .spaced; count = x .0 .at }) (x .1)
 unfolding room recordAfter outputAfter emitted step mark pour news adds leaves tokenOf
-added-all rec out token word value n x c w e h q =
+put-all rec out token word value x c w h m q =
     let p = rw w at q in
     let new = news rec token value in
     let at = rec .count in
     let fits : at + length new ≤ length out = omega arith in
-    let stored : putMid at (length out - at) out (x .1) ≡ sets out at new =
-    rw (ap (λ (s : State). s .1) p) (sets-within out new at fits) in
-    record {
-      answers = rw (← e, le-ltb (length out - at) n h);
-      leave = ap (λ (s : State). record { spaced = s .0 .spaced; count = at + n }) p;
-      writes = rw e (stored ∙ sets-eq new out at fits);
-    }
+    let counted : x .0 .at ≡ at + length new = ap (λ (s : State). s .0 .at) p ∙ count-fits at (length new) (omega arith) in
+    let n : x .0 .at - at ≡ length new = omega arith in (
+      counted,
+      record {
+        answers = rw (n, le-ltb (length out - at) (length new) h);
+        leave = rw (n, counted) (ap (λ (s : State). record { spaced = s .0 .spaced; count = at + length new }) p);
+        writes = rw n (ap (λ (s : State). s .1) p ∙ sets-eq new out at fits);
+      },
+    )
 
 -- ---- the first fitting refusal, and where there is none
 same-refusal : (a b : Answer) → Refused a ≡ Refused b → a ≡ b
@@ -182,11 +187,6 @@ refused rec out token value r a c e =
       writes = f .1;
     }
 
-pub fine-room : (rec : Stream) (out : List ℕ) (token : ℕ) (value : List ℕ) (r : Check) → Checks rec (length out) token value r → r ≡ Fine → rec .count ≤ length out
-unfolding before
-fine-room rec out token value r c e =
-    ltb-false (length out) (rec .count) (all-passed Refused Fine same-refusal not-fine (before (c .encoding) rec (length out) token value) (sym e ∙ c .is) .0)
-
 pub accepted : (rec : Stream) (out : List ℕ) (token : ℕ) (value : List ℕ) (r : Check) (a : Answer) (rec′ : Stream) (out′ : List ℕ)
     → Checks rec (length out) token value r → r ≡ Fine → Writes rec out token value a rec′ out′ → Appends rec out token value a rec′ out′
 unfolding answerTo
@@ -194,6 +194,71 @@ accepted rec out token value r a rec′ out′ c e w =
     let k = c .encoding in
     let f = first-none Refused Fine same-refusal not-fine (before k rec (length out) token value) (room rec (length out) (length (news rec token value))) (sym e ∙ c .is) in
     record { encoding = k; encoded = c .encoded; answers = w .answers ∙ sym f; leave = w .leave; writes = w .writes }
+
+pub room-known : (rec : Stream) (size token : ℕ) (value : List ℕ) (r : Check) → Checks rec size token value r → r ≡ Fine → rec .count ≤ size
+unfolding before
+room-known rec size token value r c e =
+    ltb-false size (rec .count) (all-passed Refused Fine same-refusal not-fine (before (c .encoding) rec size token value) (sym e ∙ c .is) .0)
+
+-- ---- the first fitting one of all refusals
+pub sure : (rec : Stream) (size token : ℕ) (value : List ℕ) → Surely rec size token value → Verdict rec size token value Fine
+sure rec size token value s = record { early = Fine; checks = s .checks; is = ample-room rec size token value (s .ample) }
+
+pub early-refused : (rec : Stream) (size token : ℕ) (value : List ℕ) (r : Check) (a : Answer) → Checks rec size token value r → r ≡ Refused a → Verdict rec size token value (Refused a)
+early-refused rec size token value r a c e = record { early = Refused a; checks = rw e at c; is = refl }
+
+pub then-room : (rec : Stream) (size token : ℕ) (value : List ℕ) (r s : Check) → Checks rec size token value r → r ≡ Fine
+    → s ≡ roomTest rec size (length (news rec token value)) → Verdict rec size token value s
+then-room rec size token value r s c e is = record { early = Fine; checks = rw e at c; is = is }
+
+-- whether there is room, where none of the others fits
+tested : (rec : Stream) (out : List ℕ) (token : ℕ) (value : List ℕ) (r : Check) (a : Answer) → Checks rec (length out) token value Fine
+    → r ≡ roomTest rec (length out) (length (news rec token value)) → r ≡ Refused a → Appends rec out token value a rec out
+tested rec out token value r a c is e = by (ltb (length out - rec .count) n) refl is
+  where
+    n : ℕ
+    n = length (news rec token value)
+
+    by : (b : Bool) → ltb (length out - rec .count) n ≡ b → r ≡ first ((b, Refused (NoRoom n)) ∷ []) Fine → Appends rec out token value a rec out
+    by true t q =
+        rw (same-refusal a (NoRoom n) (sym e ∙ q))
+        (accepted rec out token value Fine (NoRoom n) rec out c refl (no-room rec out token value n refl (ltb-true (length out - rec .count) n t)))
+    by false t q = absurd (not-fine a (sym e ∙ q))
+
+pub all-refused : (rec : Stream) (out : List ℕ) (token : ℕ) (value : List ℕ) (r : Check) (a : Answer) → Verdict rec (length out) token value r → r ≡ Refused a
+    → Appends rec out token value a rec out
+all-refused rec out token value r a v e = by (v .early) (v .checks) (v .is)
+  where
+    by : (d : Check) → Checks rec (length out) token value d → r ≡ andRoom d (roomTest rec (length out) (length (news rec token value))) → Appends rec out token value a rec out
+    by (Refused b) c is = refused rec out token value (Refused b) a c (sym is ∙ e)
+    by Fine c is = tested rec out token value r a c is e
+
+-- none fits
+none-fits : (rec : Stream) (size token : ℕ) (value : List ℕ) (r : Check) → Verdict rec size token value r → r ≡ Fine
+    → Checks rec size token value Fine × (Fine ≡ roomTest rec size (length (news rec token value)))
+none-fits rec size token value r v e = by (v .early) (v .checks) (v .is)
+  where
+    by : (d : Check) → Checks rec size token value d → r ≡ andRoom d (roomTest rec size (length (news rec token value)))
+        → Checks rec size token value Fine × (Fine ≡ roomTest rec size (length (news rec token value)))
+    by (Refused b) c is = absurd (not-fine b (sym is ∙ e))
+    by Fine c is = (c, sym e ∙ is)
+
+pub all-room : (rec : Stream) (out : List ℕ) (token : ℕ) (value : List ℕ) (r : Check) → Verdict rec (length out) token value r → r ≡ Fine
+    → (rec .count ≤ length out) × (length (news rec token value) ≤ length out - rec .count)
+all-room rec out token value r v e =
+    let f = none-fits rec (length out) token value r v e in
+    (room-known rec (length out) token value Fine (f .0) refl, by (ltb (length out - rec .count) n) refl (f .1))
+  where
+    n : ℕ
+    n = length (news rec token value)
+
+    by : (b : Bool) → ltb (length out - rec .count) n ≡ b → Fine ≡ first ((b, Refused (NoRoom n)) ∷ []) Fine → n ≤ length out - rec .count
+    by true t q = absurd (not-fine (NoRoom n) (sym q))
+    by false t q = ltb-false (length out - rec .count) n t
+
+pub all-accepted : (rec : Stream) (out : List ℕ) (token : ℕ) (value : List ℕ) (r : Check) (a : Answer) (rec′ : Stream) (out′ : List ℕ)
+    → Verdict rec (length out) token value r → r ≡ Fine → Writes rec out token value a rec′ out′ → Appends rec out token value a rec′ out′
+all-accepted rec out token value r a rec′ out′ v e w = accepted rec out token value Fine a rec′ out′ (none-fits rec (length out) token value r v e .0) refl w
 
 -- no two outcomes satisfy the contract
 pub unique : (rec : Stream) (out : List ℕ) (token : ℕ) (value : List ℕ) (a b : Answer) (r s : Stream) (o p : List ℕ)

@@ -3,11 +3,11 @@
 // `step` takes the record by value and returns it; `append` is the same over a lent record.
 ghost use mathlib.Core.Path.{_≡_};
 ghost use Prim.Native.Nat.{_-_, _≤_};
+ghost use mathlib.Core.Bool.{true};
 ghost use lib.ListN.{length};
 ghost use Rattle.spelling.specs.Spelling.{spelling};
 ghost use Rattle.append.specs.Append.{Appends, news, numberOf, number as number', place as place', present as present'};
-ghost use Rattle.append.specs.Steps.{Checks, Writes, emitted, counted};
-use spelling::token::TK_ID;
+ghost use Rattle.append.specs.Steps.{Checks, Ample, Surely, roomTest, Verdict, Writes, counted};
 use spelling::words;
 use stream::Sink;
 use utf8::Encoding;
@@ -133,83 +133,130 @@ fn refusal(rec: Stream, size: usize, token: u16, value: &[u8]) -> Check
     Check::Fine
 }
 
-// The token, whose kind is spelled as word, appended to a part of the output, from its first byte on.
-fn emit(spaced: bool, part: &mut [u8], token: u16, word: &[u8], value: &[u8]) -> Sink
-    ensures { λ r. ⌜ (r, now (part .exit)) ≡ emitted spaced (now (part .entry)) token (now (word .entry)) (now (value .entry)) ⌝ }
-{
-    let s = Sink { spaced, at: 0 };
-    stream::append(s, part, number_of(token), word, present(token), value)
-}
-
-// How many bytes the token adds: it is appended to an output with no room.
+// How many bytes the token, whose kind is spelled as word, adds: it is appended to an output with no room.
 fn measure(spaced: bool, token: u16, word: &[u8], value: &[u8]) -> usize
     ensures { λ r. ⌜ r ≡ counted spaced token (now (word .entry)) (now (value .entry)) ⌝ }
 {
     let mut nothing = [0u8; 0];
-    let s = emit(spaced, &mut nothing, token, word, value);
+    let start = Sink { spaced, at: 0 };
+    let s = stream::append(
+        start,
+        &mut nothing,
+        number_of(token),
+        word,
+        present(token),
+        value,
+    );
     s.at
 }
 
-// The bytes behind the record's count, where there is room for them.
+// Whether an output of size bytes has room for a value of len bytes, a space and the longest spelling behind the record's count.
+fn ample(rec: Stream, size: usize, len: usize) -> bool
+    ensures { λ r. ⌜ (r ≡ true → Ample rec size len) ⌝ }
+{
+    if size <= rec.count {
+        return false;
+    }
+    let room = size - rec.count;
+    if room < LONGEST_TOKEN {
+        return false;
+    }
+    if room - LONGEST_TOKEN < len {
+        return false;
+    }
+    true
+}
+
+// Whether a token is surely appended, as most are: it is known, its value has no bytes or a few plain ones, and there is ample room.
+fn surely(rec: Stream, size: usize, token: u16, value: &[u8]) -> bool
+    ensures { λ r. ⌜ (r ≡ true → Surely rec size token (now (value .entry))) ⌝ }
+{
+    if !ample(rec, size, value.len()) {
+        return false;
+    }
+    if !spelling::known(number_of(token)) {
+        return false;
+    }
+    if 0 < value.len() {
+        if !present(token) {
+            return false;
+        }
+        return utf8::plain_few(value);
+    }
+    true
+}
+
+// 8, where there is no room for the token: its bytes are measured only where there may be none.
+fn no_room(rec: Stream, size: usize, token: u16, word: &[u8], value: &[u8]) -> Check
+    requires { ⌜ (rec .count ≤ size) × (now word ≡ spelling (numberOf token)) ⌝ }
+    ensures { λ r. ⌜ r ≡ roomTest rec size (length (news rec token (now (value .entry)))) ⌝ }
+{
+    if ample(rec, size, value.len()) {
+        return Check::Fine;
+    }
+    let n = measure(rec.spaced, token, word, value);
+    let room = size - rec.count;
+    if room < n {
+        return Check::Refused(Answer::NoRoom(n));
+    }
+    Check::Fine
+}
+
+// The first fitting one of all refusals, for a token whose kind is spelled as word.
+fn any_refusal(rec: Stream, size: usize, token: u16, word: &[u8], value: &[u8]) -> Check
+    requires { ⌜ now word ≡ spelling (numberOf token) ⌝ }
+    ensures { λ r. ⌜ Verdict rec size token (now (value .entry)) r ⌝ }
+{
+    if surely(rec, size, token, value) {
+        return Check::Fine;
+    }
+    let first = refusal(rec, size, token, value);
+    match first {
+        Check::Refused(answer) => Check::Refused(answer),
+        Check::Fine => no_room(rec, size, token, word, value),
+    }
+}
+
+// The token's bytes behind the record's count, where there is room for them.
 fn put(rec: Stream, out: &mut [u8], token: u16, word: &[u8], value: &[u8]) -> Next
     requires { ⌜ (rec .count ≤ length (now out)) × ((now word ≡ spelling (numberOf token)) × (length (news rec token (now value)) ≤ length (now out) - rec .count)) ⌝ }
     ensures { λ r. ⌜ Writes rec (now (out .entry)) token (now (value .entry)) (r .answer) (r .rec) (now (out .exit)) ⌝ }
 {
-    let count = rec.count;
-    let s = emit(rec.spaced, &mut out[count..], token, word, value);
-    let after = count + s.at;
+    let start = Sink {
+        spaced: rec.spaced,
+        at: rec.count,
+    };
+    let s = stream::append_within(start, out, number_of(token), word, present(token), value);
+    let added = s.at - rec.count;
     Next {
-        answer: Answer::Added(s.at),
+        answer: Answer::Added(added),
         rec: Stream {
             spaced: s.spaced,
-            count: after,
+            count: s.at,
         },
     }
 }
 
-// 8, or the bytes, of a token whose kind is spelled as word: they are measured only where there may be no room.
-fn write_word(rec: Stream, out: &mut [u8], token: u16, word: &[u8], value: &[u8]) -> Next
-    requires { ⌜ (rec .count ≤ length (now out)) × (now word ≡ spelling (numberOf token)) ⌝ }
-    ensures { λ r. ⌜ Writes rec (now (out .entry)) token (now (value .entry)) (r .answer) (r .rec) (now (out .exit)) ⌝ }
+// One token appended whose kind is spelled as word.
+fn step_word(rec: Stream, out: &mut [u8], token: u16, word: &[u8], value: &[u8]) -> Next
+    requires { ⌜ now word ≡ spelling (numberOf token) ⌝ }
+    ensures { λ r. ⌜ Appends rec (now (out .entry)) token (now (value .entry)) (r .answer) (r .rec) (now (out .exit)) ⌝ }
 {
-    let room = out.len() - rec.count;
-    if value.len() + LONGEST_TOKEN <= room {
-        return put(rec, out, token, word, value);
+    let first = any_refusal(rec, out.len(), token, word, value);
+    match first {
+        Check::Refused(answer) => Next { answer, rec },
+        Check::Fine => put(rec, out, token, word, value),
     }
-    let n = measure(rec.spaced, token, word, value);
-    if room < n {
-        return Next {
-            answer: Answer::NoRoom(n),
-            rec,
-        };
-    }
-    put(rec, out, token, word, value)
-}
-
-// 8, or the bytes behind the record's count. TK_ID, the most common kind, has no spelling to look up.
-fn write(rec: Stream, out: &mut [u8], token: u16, value: &[u8]) -> Next
-    requires { ⌜ rec .count ≤ length (now out) ⌝ }
-    ensures { λ r. ⌜ Writes rec (now (out .entry)) token (now (value .entry)) (r .answer) (r .rec) (now (out .exit)) ⌝ }
-{
-    let number = number_of(token);
-    if number == TK_ID {
-        return write_word(rec, out, token, b"", value);
-    }
-    let word = words::of(number);
-    let bytes = word.bytes;
-    let len = word.len;
-    write_word(rec, out, token, &bytes[..len], value)
 }
 
 // One token appended: the answer, and the record that is left.
 pub fn step(rec: Stream, out: &mut [u8], token: u16, value: &[u8]) -> Next
     ensures { λ r. ⌜ Appends rec (now (out .entry)) token (now (value .entry)) (r .answer) (r .rec) (now (out .exit)) ⌝ }
 {
-    let first = refusal(rec, out.len(), token, value);
-    match first {
-        Check::Refused(answer) => Next { answer, rec },
-        Check::Fine => write(rec, out, token, value),
-    }
+    let word = words::of(number_of(token));
+    let bytes = word.bytes;
+    let len = word.len;
+    step_word(rec, out, token, &bytes[..len], value)
 }
 
 // The same over a lent record: it is copied out, and what is left of it stored back.

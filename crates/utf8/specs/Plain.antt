@@ -100,6 +100,12 @@ few-by-two s w k a b f m l e p q =
     (as-one (a && b) (plain (length s) s) (λ t. plain-by (length s) s (both s w k (length s) a b l e p q t)) (both-from s w k (length s) a b l e p q))
 
 -- and what it comes to
+pub few-short : (s : List ℕ) (b : Bool) → b ≡ plainFew s → b ≡ true → length s < 16
+unfolding plainFew
+few-short s b e t =
+    ltb-true (length s) 16
+    (and-right (leb 4 (length s)) (ltb (length s) 16) (and-left (leb 4 (length s) && ltb (length s) 16) (plain (length s) s) (sym e ∙ t)))
+
 pub few-plain : (s : List ℕ) (b : Bool) → b ≡ plainFew s → b ≡ true → Plain (length s) s
 unfolding plainFew
 few-plain s b e t =
