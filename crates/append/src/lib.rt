@@ -123,9 +123,6 @@ fn refusal(rec: Stream, size: usize, token: u16, value: &[u8]) -> Check
     if LONGEST < value.len() {
         return Check::Refused(Answer::TooLong);
     }
-    if utf8::plain_few(value) {
-        return Check::Fine;
-    }
     let e = utf8::check(value);
     if utf8::number(e) != 0 {
         return Check::Refused(Answer::Broken(e));

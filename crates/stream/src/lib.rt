@@ -359,7 +359,11 @@ pub fn append_within(
             return lay_token(s.spaced, s.at, out, kind, word, has, value);
         }
     }
-    append(s, out, kind, word, has, value)
+    let again = Sink {
+        spaced: s.spaced,
+        at: s.at,
+    };
+    append(again, out, kind, word, has, value)
 }
 
 // A value between quotes.

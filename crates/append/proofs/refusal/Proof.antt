@@ -1,7 +1,5 @@
--- `append::refusal` meets its contract: each return is the first condition that holds; a few plain bytes are a text.
-use mathlib.Core.Path.{ap, _∙_, refl}
-use Rattle.utf8.specs.Plain.{few-text}
-use Rattle.utf8.specs.declared.Encoding.the-variants.{Valid}
+-- `append::refusal` meets its contract: each return is the first condition that holds.
+use mathlib.Core.Path.{ap, _∙_}
 use Rattle.spelling.specs.Spelling.{known}
 use Rattle.append.specs.Laws.{malformed, unknown, empty, stray, too-long, ill, fine}
 use borrow.Author.Needs.{needs}
@@ -50,51 +48,35 @@ returns-5 c =
 
 returns-6 : tie.Need-returns-6
 returns-6 c =
-    let at-plain = c .before in
-    let at-if5 = at-plain .before in
-    let at-if4 = at-if5 .before in
-    let at-present = at-if4 .before in
-    let at-if2 = at-present .before .before in
-    let at-known = at-if2 .before in
-    let at-number-of = at-known .before in
-    let at-if1 = at-number-of .before in
-    fine _ _ _ _ _ (at-if1 .if1 .left) (at-known .known .ensures ∙ ap known (at-number-of .number-of .ensures)) _ (at-if2 .if2 .left)
-    (at-present .present .ensures) (at-if4 .if4 .left) Valid 0 (at-if5 .if5 .left) (few-text _ _ (at-plain .plain-few .ensures) (c .if6 .taken)) refl
-    refl
+    let at-if1 = c .before .before .before .before .before .before .before .before .before .before .if1 in
+    let at-known = c .before .before .before .before .before .before .before .before .known in
+    let at-number-of = c .before .before .before .before .before .before .before .before .before .number-of in
+    let at-if2 = c .before .before .before .before .before .before .before .if2 in
+    let at-present = c .before .before .before .before .before .present in
+    let at-if4 = c .before .before .before .before .if4 in
+    let at-if5 = c .before .before .before .if5 in
+    let at-check = c .before .before .check in
+    let at-number = c .before .number in
+    ill _ _ _ _ _ (at-if1 .left) (at-known .ensures ∙ ap known (at-number-of .ensures)) _ (at-if2 .left) (at-present .ensures) (at-if4 .left)
+    (at-check .result) _ (at-if5 .left) (at-check .ensures) (at-number .ensures) (c .if6 .taken)
 
 returns-7 : tie.Need-returns-7
 returns-7 c =
-    let at-number = c .before in
-    let at-check = at-number .before in
-    let at-if5 = at-check .before .before .before in
-    let at-if4 = at-if5 .before in
-    let at-present = at-if4 .before in
-    let at-if2 = at-present .before .before in
-    let at-known = at-if2 .before in
-    let at-number-of = at-known .before in
-    let at-if1 = at-number-of .before in
-    ill _ _ _ _ _ (at-if1 .if1 .left) (at-known .known .ensures ∙ ap known (at-number-of .number-of .ensures)) _ (at-if2 .if2 .left)
-    (at-present .present .ensures) (at-if4 .if4 .left) (at-check .check .result) _ (at-if5 .if5 .left) (at-check .check .ensures)
-    (at-number .number .ensures) (c .if7 .taken)
-
-returns-8 : tie.Need-returns-8
-returns-8 c =
-    let at-number = c .before in
-    let at-check = at-number .before in
-    let at-if5 = at-check .before .before .before in
-    let at-if4 = at-if5 .before in
-    let at-present = at-if4 .before in
-    let at-if2 = at-present .before .before in
-    let at-known = at-if2 .before in
-    let at-number-of = at-known .before in
-    let at-if1 = at-number-of .before in
-    fine _ _ _ _ _ (at-if1 .if1 .left) (at-known .known .ensures ∙ ap known (at-number-of .number-of .ensures)) _ (at-if2 .if2 .left)
-    (at-present .present .ensures) (at-if4 .if4 .left) (at-check .check .result) _ (at-if5 .if5 .left) (at-check .check .ensures)
-    (at-number .number .ensures) (c .if7 .left)
+    let at-if1 = c .before .before .before .before .before .before .before .before .before .before .if1 in
+    let at-known = c .before .before .before .before .before .before .before .before .known in
+    let at-number-of = c .before .before .before .before .before .before .before .before .before .number-of in
+    let at-if2 = c .before .before .before .before .before .before .before .if2 in
+    let at-present = c .before .before .before .before .before .present in
+    let at-if4 = c .before .before .before .before .if4 in
+    let at-if5 = c .before .before .before .if5 in
+    let at-check = c .before .before .check in
+    let at-number = c .before .number in
+    fine _ _ _ _ _ (at-if1 .left) (at-known .ensures ∙ ap known (at-number-of .ensures)) _ (at-if2 .left) (at-present .ensures) (at-if4 .left)
+    (at-check .result) _ (at-if5 .left) (at-check .ensures) (at-number .ensures) (c .if6 .left)
 
 pub refusal-spec : {M : Type 1} → statement M
 refusal-spec =
     tie.close
     (tie.spec
     returns (λ c κs. search needs) (λ c κs. search needs) returns-2 returns-3 (λ c κs. search needs) returns-4 returns-5
-    (λ c κs. search needs) returns-6 (λ c κs. search needs) (λ c κs. search needs) returns-7 returns-8)
+    (λ c κs. search needs) (λ c κs. search needs) returns-6 returns-7)
