@@ -1,4 +1,4 @@
--- What the two halves of the by-value core do: the refusals that need no measuring, and the rest.
+-- What the steps of the by-value core do: the refusals that need no measuring, 8, and the bytes.
 use Prim.Native.Nat.{ℕ, _+_, _-_, _≤_}
 use mathlib.Core.Path.{_≡_}
 use mathlib.Core.List.{List, [], _∷_}

@@ -1,12 +1,12 @@
 -- Bytes stored one behind the other from a place on, those that find no room dropped: `sets` of the library, and what it does to a joined list.
 use Prim.Native.Nat.{ℕ, zero, suc, _+_, _-_, _≤_}
 use native.Mathlib.Omega.{arith}
-use native.Mathlib.Nat.{add-suc, suc-add, add-zero, zero-add, le-refl}
+use native.Mathlib.Nat.{add-suc, suc-add, add-zero, le-refl}
 use mathlib.Core.Path.{_≡_, refl, _∙_, ap, sym}
 use mathlib.Core.List.{List, [], _∷_, _++_, append-nil, append-assoc}
 use lib.ListN.{length, take, drop, set, length-set, length-drop, drop-of-length-le}
 use lib.Seq.{sets, sets-eq, set-out, take-all, take-length, drop-drop}
-use borrow.Rule.Slice.PartMut.{midOf, putMid, mid-len}
+use borrow.Rule.Slice.PartMut.{midOf, putMid}
 
 -- the first list, and then the second behind it
 pub sets-append : (a b l : List ℕ) (i : ℕ) → sets l i (a ++ b) ≡ sets (sets l i a) (i + length a) b
@@ -29,10 +29,3 @@ pub sets-copied : (l v ys : List ℕ) (i : ℕ) → i + length v ≤ length l �
 sets-copied l v ys i h e =
     let k : length (drop i l) ≤ length l - i = rw (length-drop i l) (le-refl (length l - i)) in
     rw (e, take-length v, take-all (length l - i) (drop i l) k, drop-of-length-le (drop i l) k, append-nil, drop-drop (length v) i l, sets-eq v l i h, append-assoc)
-
--- to store in the part from i on is to store in the whole
-pub sets-within : (l v : List ℕ) (i : ℕ) → i + length v ≤ length l → putMid i (length l - i) l (sets (midOf i (length l - i) l) 0 v) ≡ sets l i v
-sets-within l v i h =
-    let m : length (midOf i (length l - i) l) ≡ length l - i = mid-len i (length l) l (le-refl (length l)) in
-    sets-copied l v (sets (midOf i (length l - i) l) 0 v) i h
-    (rw (sets-eq v (midOf i (length l - i) l) 0 (omega arith), take-length v, zero-add))
