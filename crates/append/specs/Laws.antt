@@ -6,7 +6,7 @@ use mathlib.Core.List.{List, [], _∷_}
 use mathlib.Core.Bool.{Bool, true, false, not, cond, _&&_, and-false}
 use lib.Dec.{ltb}
 use lib.ListN.{length}
-use lib.Seq.{sets, sets-eq}
+use lib.Seq.{sets-eq}
 use native.Mathlib.Nat.{zero-add, suc-ne-zero}
 use borrow.Author.Tests.{lt-ltb, le-ltb, ltb-true, ltb-false, eq-eqb, ne-eqb}
 use Rattle.utf8.specs.Rfc3629 as utf8
@@ -16,8 +16,7 @@ use Rattle.utf8.specs.Laws.{encoded-unique, place-within}
 use Rattle.utf8.specs.Decided.{decided}
 use Rattle.utf8.specs.declared.Encoding.{Encoding}
 use Rattle.utf8.specs.declared.Encoding.the-variants.{Valid}
-use Rattle.spelling.specs.Rows.{rows}
-use Rattle.spelling.specs.Spelling.{row, known, spelling}
+use Rattle.spelling.specs.Spelling.{known, spelling}
 use Rattle.laws.specs.First.{first, within, first-some, first-none, all-passed}
 use Rattle.stream.specs.Stream.{added, adds, leaves}
 use Rattle.stream.specs.Sink.{State, most, pour, mark, step, given}
@@ -29,7 +28,7 @@ use Rattle.append.specs.declared.Answer.the-variants.{Added, Malformed, 
 use Rattle.append.specs.declared.Check.{Check}
 use Rattle.append.specs.declared.Check.the-variants.{Fine, Refused}
 use Rattle.append.specs.Append.{Appends, numberOf, present, tokenOf, news, longest, broken, before, room, answerTo, recordAfter, outputAfter, number, place}
-use Rattle.append.specs.Steps.{Checks, Ample, Surely, roomTest, andRoom, Verdict, Writes, emitted, counted}
+use Rattle.append.specs.Steps.{Checks, Ample, roomTest, andRoom, Verdict, Writes, emitted, counted}
 
 -- no bytes are a text
 no-bytes : (v : List ℕ) → length v ≡ 0 → Text v
@@ -201,9 +200,6 @@ room-known rec size token value r c e =
     ltb-false size (rec .count) (all-passed Refused Fine same-refusal not-fine (before (c .encoding) rec size token value) (sym e ∙ c .is) .0)
 
 -- ---- the first fitting one of all refusals
-pub sure : (rec : Stream) (size token : ℕ) (value : List ℕ) → Surely rec size token value → Verdict rec size token value Fine
-sure rec size token value s = record { early = Fine; checks = s .checks; is = ample-room rec size token value (s .ample) }
-
 pub early-refused : (rec : Stream) (size token : ℕ) (value : List ℕ) (r : Check) (a : Answer) → Checks rec size token value r → r ≡ Refused a → Verdict rec size token value (Refused a)
 early-refused rec size token value r a c e = record { early = Refused a; checks = rw e at c; is = refl }
 

@@ -1,3 +1,5 @@
 pub mod Append
 pub mod Steps
 pub mod Laws
+pub mod Quick
+pub mod QuickLaws

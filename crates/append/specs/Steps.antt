@@ -28,11 +28,6 @@ pub record Ample (rec : Stream) (size len : ℕ) : Type 0 where
   pub within : rec .count ≤ size
   pub fits : len + longestToken ≤ size - rec .count
 
--- none of those refusals fits, and there is room
-pub record Surely (rec : Stream) (size token : ℕ) (value : List ℕ) : Type 0 where
-  pub checks : Checks rec size token value Fine
-  pub ample : Ample rec size (length value)
-
 -- 8, for a token of n bytes
 abbrev pub roomTest : Stream → ℕ → ℕ → Check
 roomTest rec size n = first ((ltb (size - rec .count) n, Refused (NoRoom n)) ∷ []) Fine

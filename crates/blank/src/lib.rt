@@ -19,10 +19,15 @@ pub fn blank(b: u8) -> bool
     (b == TAB) | ((b == LINE_FEED) | ((b == FORM_FEED) | ((b == CARRIAGE_RETURN) | (b == SPACE))))
 }
 
-// Whether all of a value's bytes are; the empty value counts.
+// Whether all of a value's bytes are; the empty value counts. Of most values the first byte is past them all.
 pub fn all_blank(v: &[u8]) -> bool
     ensures { λ r. ⌜ r ≡ allBlank (now (v .entry)) ⌝ }
 {
+    if 0 < v.len() {
+        if SPACE < v[0] {
+            return false;
+        }
+    }
     let mut i = 0;
     while i < v.len() {
         if !blank(v[i]) {

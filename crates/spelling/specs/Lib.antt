@@ -3,4 +3,3 @@ pub mod Rows
 pub mod Spelling
 pub mod Table
 pub mod Laws
-pub mod Words

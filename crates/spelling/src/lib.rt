@@ -3,7 +3,6 @@
 // It has a row for each token number, an offset and a length, and a pool of bytes. The pool is made once, by `pool`, and
 // lent to whoever looks a spelling up.
 pub mod token;
-pub mod words;
 
 ghost use mathlib.Core.Path.{_≡_};
 ghost use Rattle.spelling.specs.Spelling.{known as known'};

@@ -3,5 +3,3 @@ pub mod Sink
 pub mod Laws
 pub mod Length
 pub mod Cases
-pub mod Copies
-pub mod Within

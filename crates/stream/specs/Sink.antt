@@ -12,10 +12,6 @@ use Rattle.stream.specs.declared.Sink.{Sink}
 abbrev pub State : Type 0
 State = Sink × List ℕ
 
--- one of them: the bit, the count, the bytes
-abbrev pub state : Bool → ℕ → List ℕ → State
-state b n l = (record { spaced = b; at = n }, l)
-
 -- no count goes past the largest number of the machine, and no output is that long
 abbrev pub most : ℕ
 most = 0xffff_ffff_ffff_ffff

@@ -3,6 +3,7 @@
 use Prim.Native.Nat.{ℕ, _+_, _-_, _≤_, _<_}
 use mathlib.Core.Path.{_≡_, _∙_, sym}
 use mathlib.Core.List.{List}
+use mathlib.Core.Bool.{true}
 use native.Mathlib.Omega.{arith}
 use lib.ListN.{length, take, drop, length-drop}
 use lib.Seq.{take-add}
@@ -10,7 +11,7 @@ use Rattle.utf8.specs.Rfc3629.{Text, Longest}
 use Rattle.utf8.specs.Scan.{width}
 use Rattle.utf8.specs.Characters.{width-none, width-starts}
 use Rattle.utf8.specs.Laws.{text-append, text-char, longest-here}
-use Rattle.utf8.specs.Plain.{Plain, Goes, rest, plain-text}
+use Rattle.utf8.specs.Plain.{allPlain, Goes, rest, plain-text}
 
 -- by the length of the character that begins the row
 pub goes-width : (s : List ℕ) (n : ℕ) → n ≡ width s → Goes s n
@@ -18,11 +19,11 @@ goes-width s n e =
     (λ z. width-none s (sym e ∙ z), λ h. let st = width-starts s (λ z. h (e ∙ z)) in (rw e (st .within), rw e (text-char (st .char))))
 
 -- and by the plain bytes behind it
-pub goes-far : (s : List ℕ) (n m : ℕ) → Goes s n → (n ≡ 0 → ⊥) → m ≤ length (drop n s) → Plain m (drop n s) → Goes s (n + m)
+pub goes-far : (s : List ℕ) (n m : ℕ) → Goes s n → (n ≡ 0 → ⊥) → m ≤ length (drop n s) → allPlain (take m (drop n s)) ≡ true → Goes s (n + m)
 goes-far s n m g h l p =
     let t = g .1 h in (
       λ z. absurd (h (omega arith)),
-      λ k. (omega (arith, t .0, length-drop n s), rw (take-add n m s) (text-append (t .1) (plain-text m (drop n s) l p))),
+      λ k. (omega (arith, t .0, length-drop n s), rw (take-add n m s) (text-append (t .1) (plain-text (take m (drop n s)) p))),
     )
 
 module _ (s : List ℕ) (i : ℕ) (below : i < length s) where

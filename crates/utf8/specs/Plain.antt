@@ -1,163 +1,146 @@
 -- Plain bytes are below 80. Each is a character, so that a row of them is a text. Assumes nothing.
-use Prim.Native.Nat.{ℕ, zero, suc, _+_, _-_, _≤_, _<_}
+use Prim.Native.Nat.{ℕ, _+_, _-_, _/_, _≤_, _<_}
 use mathlib.Core.Path.{_≡_, refl, _∙_, sym}
-use mathlib.Core.List.{List, [], _∷_}
-use mathlib.Core.Bool.{Bool, true, false, not, _&&_, false≢true}
+use mathlib.Core.List.{List, [], _∷_, _++_}
+use mathlib.Core.Bool.{Bool, true, false, _&&_, false≢true}
 use native.Mathlib.Omega.{arith}
 use native.Mathlib.Nat.{not-suc-le-zero}
-use lib.Dec.{leb, ltb}
-use lib.ListN.{length, take, drop, getD, length-drop}
-use lib.Seq.{take-all, take-add, take-length, getD-drop}
-use borrow.Author.Tests.{ltb-true, ltb-false, lt-leb, le-leb, lt-ltb, le-ltb}
+use lib.Dec.{ltb}
+use lib.ListN.{length, take, drop, getD, length-drop, take-append-drop}
+use lib.Seq.{take-all, take-take, take-add}
+use borrow.Author.Tests.{ltb-true}
 use Rattle.laws.specs.Tests.{and-left, and-right, and-both, as-one}
-use Rattle.utf8.specs.Rfc3629.{Text, none, one}
+use Rattle.utf8.specs.Rfc3629.{Text, none, more, one}
 use Rattle.utf8.specs.Characters.{NoChar}
-use Rattle.utf8.specs.Laws.{text-append, text-char}
 
--- the first n bytes are plain, as the code tests them
-abbrev pub plain : ℕ → List ℕ → Bool
-plain zero s = true
-plain (suc n) s = plain n s && ltb (getD s n 0) 0x80
+-- all bytes are plain: below 80
+unfoldable pub allPlain : List ℕ → Bool
+allPlain [] = true
+allPlain (x ∷ s) = ltb x 0x80 && allPlain s
 
--- and by their places
-abbrev pub Plain : ℕ → List ℕ → Type 0
-Plain n s = (i : ℕ) → i < n → getD s i 0 < 0x80
+-- where the pieces of w plain bytes that begin the bytes end
+pub record Stops (w : ℕ) (s : List ℕ) (i : ℕ) : Type 0 where
+  pub within : i ≤ length s
+  pub plain : allPlain (take i s) ≡ true
+  pub last : w ≤ length s - i → allPlain (take w (drop i s)) ≡ false
 
 -- a text goes on for n bytes of the row; n is 0 where no character begins it
 abbrev pub Goes : List ℕ → ℕ → Type 0
 Goes s n = (n ≡ 0 → NoChar s) × ((n ≡ 0 → ⊥) → (n ≤ length s) × Text (take n s))
 
-pub plain-at : (n : ℕ) (s : List ℕ) → plain n s ≡ true → Plain n s
-plain-at zero s t i h = absurd (not-suc-le-zero h)
-plain-at (suc n) s t i h =
-    by (ltb i n) refl (plain-at n s (and-left (plain n s) (ltb (getD s n 0) 0x80) t) i)
-  where
-    by : (b : Bool) → ltb i n ≡ b → (i < n → getD s i 0 < 0x80) → getD s i 0 < 0x80
-    by true e there = there (ltb-true i n e)
-    by false e there =
-        let here : i ≡ n = omega (arith, ltb-false i n e) in
-        rw here (ltb-true (getD s n 0) 0x80 (and-right (plain n s) (ltb (getD s n 0) 0x80) t))
+-- ---- a row in parts
 
--- none, and plain bytes up to i with w more from a place k on that is not past i
-pub plain-none : (s : List ℕ) → Plain 0 s
-plain-none s i h = absurd (not-suc-le-zero h)
-
-pub overlap : (s : List ℕ) (i k w n : ℕ) → k ≤ i → n ≡ k + w → Plain i s → Plain w (drop k s) → Plain n s
-overlap s i k w n l e a b j h = by (ltb j i) refl
+pub plain-append : (a b : List ℕ) → allPlain (a ++ b) ≡ allPlain a && allPlain b
+unfolding allPlain
+plain-append [] b = refl
+plain-append (x ∷ a) b = rw (plain-append a b) (by (ltb x 0x80))
   where
-    by : (t : Bool) → ltb j i ≡ t → getD s j 0 < 0x80
-    by true t = a j (ltb-true j i t)
-    by false t =
-        let past = ltb-false j i t in
-        let z : k + (j - k) ≡ j = omega arith in
-        rw (getD-drop k s (j - k) 0, z) at (b (j - k) (omega arith))
+    by : (t : Bool) → t && (allPlain a && allPlain b) ≡ (t && allPlain a) && allPlain b
+    by true = refl
+    by false = refl
+
+-- the bytes up to k, and those from it on
+pub plain-split : (k : ℕ) (s : List ℕ) → allPlain s ≡ allPlain (take k s) && allPlain (drop k s)
+plain-split k s = rw (take-append-drop k s) at (plain-append (take k s) (drop k s))
+
+pub plain-take : (k : ℕ) (s : List ℕ) → allPlain s ≡ true → allPlain (take k s) ≡ true
+plain-take k s t = and-left (allPlain (take k s)) (allPlain (drop k s)) (sym (plain-split k s) ∙ t)
+
+pub plain-drop : (k : ℕ) (s : List ℕ) → allPlain s ≡ true → allPlain (drop k s) ≡ true
+plain-drop k s t = and-right (allPlain (take k s)) (allPlain (drop k s)) (sym (plain-split k s) ∙ t)
 
 -- a part that is lent up to the end is what is left
 pub rest : (s : List ℕ) (k : ℕ) → take (length s - k) (drop k s) ≡ drop k s
 rest s k = take-all (length s - k) (drop k s) (omega (arith, length-drop k s))
 
--- the bytes are from four to fifteen, and plain
-unfoldable pub plainFew : List ℕ → Bool
-plainFew s = (leb 4 (length s) && ltb (length s) 16) && plain (length s) s
-
--- what is plain by its places is plain by the test
-plain-by : (n : ℕ) (s : List ℕ) → Plain n s → plain n s ≡ true
-plain-by zero s p = refl
-plain-by (suc n) s p =
-    and-both (plain n s) (ltb (getD s n 0) 0x80) (plain-by n s (λ i l. p i (omega arith))) (lt-ltb (getD s n 0) 0x80 (p n (omega arith)))
-
--- w of n plain bytes from k on are plain
-part-of : (s : List ℕ) (n k w : ℕ) → n ≡ k + w → Plain n s → Plain w (drop k s)
-part-of s n k w e p i h = rw (getD-drop k s i 0) (p (k + i) (omega arith))
-
--- two tests of w bytes, at the start and in the part from k on, reach all n; and where all n are plain, both hold
-pub both : (s : List ℕ) (w k n : ℕ) (a b : Bool) → k ≤ w → n ≡ k + w → a ≡ plain w s → b ≡ plain w (take (length s - k) (drop k s))
-    → a && b ≡ true → Plain n s
-both s w k n a b l e p q t =
-    overlap s w k w n l e (plain-at w s (sym p ∙ and-left a b t))
-    (plain-at w (drop k s) (rw (rest s k) at (sym q ∙ and-right a b t)))
-
-both-from : (s : List ℕ) (w k n : ℕ) (a b : Bool) → k ≤ w → n ≡ k + w → a ≡ plain w s → b ≡ plain w (take (length s - k) (drop k s))
-    → plain n s ≡ true → a && b ≡ true
-both-from s w k n a b l e p q t =
-    let all = plain-at n s t in
-    and-both a b (p ∙ plain-by w s (λ i h. all i (omega arith))) (q ∙ rw (rest s k) (plain-by w (drop k s) (part-of s n k w e all)))
-
--- the ways through the test of a few: too few, too many, and two tests
-pub too-few : (s : List ℕ) → length s < 4 → false ≡ plainFew s
-unfolding plainFew
-too-few s h = rw (lt-leb 4 (length s) h)
-
-pub too-many : (s : List ℕ) → 16 ≤ length s → false ≡ plainFew s
-unfolding plainFew
-too-many s h = rw (le-leb 4 (length s) (omega arith), le-ltb (length s) 16 h)
-
-pub few-by-two : (s : List ℕ) (w k : ℕ) (a b : Bool) → 4 ≤ length s → length s < 16 → k ≤ w → length s ≡ k + w
-    → a ≡ plain w s → b ≡ plain w (take (length s - k) (drop k s)) → (a && b) ≡ plainFew s
-unfolding plainFew
-few-by-two s w k a b f m l e p q =
-    rw (le-leb 4 (length s) f, lt-ltb (length s) 16 m)
-    (as-one (a && b) (plain (length s) s) (λ t. plain-by (length s) s (both s w k (length s) a b l e p q t)) (both-from s w k (length s) a b l e p q))
-
--- and what it comes to
-pub few-short : (s : List ℕ) (b : Bool) → b ≡ plainFew s → b ≡ true → length s < 16
-unfolding plainFew
-few-short s b e t =
-    ltb-true (length s) 16
-    (and-right (leb 4 (length s)) (ltb (length s) 16) (and-left (leb 4 (length s) && ltb (length s) 16) (plain (length s) s) (sym e ∙ t)))
-
-pub few-plain : (s : List ℕ) (b : Bool) → b ≡ plainFew s → b ≡ true → Plain (length s) s
-unfolding plainFew
-few-plain s b e t =
-    plain-at (length s) s (and-right (leb 4 (length s) && ltb (length s) 16) (plain (length s) s) (sym e ∙ t))
-
-pub not-false : (b : Bool) → not b ≡ false → b ≡ true
-not-false true e = refl
-not-false false e = absurd (false≢true (sym e))
-
 -- w bytes behind i
 pub left-of : (s : List ℕ) (i w : ℕ) → w ≤ length s - i → w ≤ length (take (length s - i) (drop i s))
 left-of s i w h = rw (rest s i, length-drop i s) h
 
-pub next : (s : List ℕ) (i w : ℕ) → Plain i s → Plain w (take (length s - i) (drop i s)) → Plain (i + w) s
-next s i w p q = overlap s i i w (i + w) (omega arith) refl p (rw (rest s i) at q)
+-- ---- two tests, the second in what is left from a place on
 
--- n of them are within the bytes
-pub within : (s : List ℕ) (i n : ℕ) → i ≤ length s → n ≤ length (take (length s - i) (drop i s)) → i + n ≤ length s
-within s i n l h =
-    let m : n ≤ length s - i = rw (rest s i, length-drop i s) at h in
-    omega arith
+-- it takes up where the first ends
+pub both : (s : List ℕ) (i w : ℕ) (a b : Bool) → a ≡ allPlain (take i s) → b ≡ allPlain (take w (take (length s - i) (drop i s)))
+    → a && b ≡ allPlain (take (i + w) s)
+both s i w a b p q = rw (p, q, rest s i, take-add i w s) (sym (plain-append (take i s) (take w (drop i s))))
 
--- four blocks are a page
-pub page : (s : List ℕ) (a b c d : Bool)
-    → (a ≡ true → Plain 16 s)
-    → (b ≡ true → Plain 16 (take (length s - 16) (drop 16 s)))
-    → (c ≡ true → Plain 16 (take (length s - 32) (drop 32 s)))
-    → (d ≡ true → Plain 16 (take (length s - 48) (drop 48 s)))
-    → ((a && b) && c) && d ≡ true → Plain 64 s
-page s a b c d p q r t e =
-    let abc = and-left ((a && b) && c) d e in
-    let ab = and-left (a && b) c abc in
-    next s 48 16 (next s 32 16 (next s 16 16 (p (and-left a b ab)) (q (and-right a b ab))) (r (and-right (a && b) c abc)))
-    (t (and-right ((a && b) && c) d e))
+-- it begins no later, and is of the last w bytes: the two reach all
+pub overlap : (s : List ℕ) (i k w : ℕ) (a b : Bool) → k ≤ i → length s ≡ k + w
+    → a ≡ allPlain (take i s) → b ≡ allPlain (take w (take (length s - k) (drop k s))) → a && b ≡ allPlain s
+overlap s i k w a b l e p q = rw (p, q, rest s k, take-all w (drop k s) (omega (arith, length-drop k s))) (as-one _ (allPlain s) to from)
+  where
+    to : allPlain (take i s) && allPlain (drop k s) ≡ true → allPlain s ≡ true
+    to t =
+        let start = plain-take k (take i s) (and-left (allPlain (take i s)) (allPlain (drop k s)) t) in
+        rw (plain-split k s)
+        (and-both (allPlain (take k s)) (allPlain (drop k s)) (rw (take-take k i s l) at start) (and-right (allPlain (take i s)) (allPlain (drop k s)) t))
 
-pub last-block : (s : List ℕ) (i k : ℕ) → k ≤ i → length s ≡ k + 16 → Plain i s → Plain 16 (take (length s - k) (drop k s)) → Plain (length s) s
-last-block s i k l e p q = overlap s i k 16 (length s) l e p (rw (rest s k) at q)
+    from : allPlain s ≡ true → allPlain (take i s) && allPlain (drop k s) ≡ true
+    from t = and-both (allPlain (take i s)) (allPlain (drop k s)) (plain-take i s t) (plain-drop k s t)
 
-first : (s : List ℕ) → 0 < length s → getD s 0 0 < 0x80 → Text (take 1 s)
-first [] h l = absurd (not-suc-le-zero h)
-first (a ∷ s) h l = text-char (one (record { low = omega arith; high = omega arith }))
+-- ---- pieces of w plain bytes
 
--- a row of plain bytes is a text
-pub plain-text : (n : ℕ) (s : List ℕ) → n ≤ length s → Plain n s → Text (take n s)
-plain-text zero s h p = none
-plain-text (suc n) s h p =
-    let z : n + 1 ≡ suc n = omega arith in
-    let y : n + 0 ≡ n = omega arith in
-    rw (← z, take-add n 1 s)
-    (text-append (plain-text n s (omega arith) (λ i l. p i (omega arith)))
-    (first (drop n s) (rw (length-drop n s) (omega arith)) (rw (getD-drop n s 0 0, y) (p n (omega arith)))))
+-- the piece from i on is not plain, or is not whole
+pub stop : (s : List ℕ) (i w : ℕ) (b : Bool) → i ≤ length s → allPlain (take i s) ≡ true
+    → b ≡ allPlain (take w (take (length s - i) (drop i s))) → b ≡ false → Stops w s i
+stop s i w b l p q f = record { within = l; plain = p; last = λ h. rw (rest s i) at (sym q ∙ f) }
 
--- a few plain bytes are one
-pub few-text : (s : List ℕ) (b : Bool) → b ≡ plainFew s → b ≡ true → Text s
-few-text s b e t = rw (take-length s) at (plain-text (length s) s (omega arith) (few-plain s b e t))
+pub stop-short : (s : List ℕ) (i w : ℕ) → i ≤ length s → allPlain (take i s) ≡ true → length s - i < w → Stops w s i
+stop-short s i w l p h = record { within = l; plain = p; last = λ k. absurd (omega arith) }
+
+-- where a whole one is left, not all bytes are plain
+pub stopped : (s : List ℕ) (i w : ℕ) → Stops w s i → w ≤ length s - i → false ≡ allPlain s
+stopped s i w h l = as-one false (allPlain s) (λ e. absurd (false≢true e)) (λ t. sym (h .last l) ∙ plain-take w (drop i s) (plain-drop i s t))
+
+-- where none is, the last w bytes decide
+pub reached : (s : List ℕ) (i k w : ℕ) (b : Bool) → Stops w s i → length s - i < w → length s ≡ k + w
+    → b ≡ allPlain (take w (take (length s - k) (drop k s))) → b ≡ allPlain s
+reached s i k w b h l e q = overlap s i k w true b (omega (arith, h .within)) e (sym (h .plain)) q
+
+-- pieces of v, and pieces of w behind them
+pub behind : (s : List ℕ) (i j v w : ℕ) → Stops v s i → Stops w (take (length s - i) (drop i s)) j
+    → (i + j ≤ length s) × (allPlain (take (i + j) s) ≡ true)
+behind s i j v w g h = (
+  let fit : j ≤ length s - i = rw (rest s i, length-drop i s) at (h .within) in omega (arith, g .within),
+  sym (both s i j true true (sym (g .plain)) (sym (h .plain))),
+)
+
+-- ---- no bytes, and up to three: the first, the middle and the last
+
+pub none-plain : (s : List ℕ) → length s ≡ 0 → true ≡ allPlain s
+unfolding allPlain
+none-plain [] e = refl
+none-plain (x ∷ s) e = absurd (omega arith)
+
+pub three-plain : (s : List ℕ) → 0 < length s → length s < 4
+    → (ltb (getD s 0 0) 0x80 && ltb (getD s (length s / 2) 0) 0x80) && ltb (getD s (length s - 1) 0) 0x80 ≡ allPlain s
+unfolding allPlain
+three-plain [] h l = absurd (not-suc-le-zero h)
+three-plain (x ∷ []) h l = by (ltb x 0x80)
+  where
+    by : (a : Bool) → (a && a) && a ≡ a && true
+    by true = refl
+    by false = refl
+three-plain (x ∷ y ∷ []) h l = by (ltb x 0x80) (ltb y 0x80)
+  where
+    by : (a b : Bool) → (a && b) && b ≡ a && (b && true)
+    by true true = refl
+    by true false = refl
+    by false b = refl
+three-plain (x ∷ y ∷ z ∷ []) h l = by (ltb x 0x80) (ltb y 0x80) (ltb z 0x80)
+  where
+    by : (a b c : Bool) → (a && b) && c ≡ a && (b && (c && true))
+    by true true true = refl
+    by true true false = refl
+    by true false c = refl
+    by false b c = refl
+three-plain (x ∷ y ∷ z ∷ u ∷ s) h l = absurd (omega arith)
+
+-- ---- a row of plain bytes is a text
+
+pub plain-text : (s : List ℕ) → allPlain s ≡ true → Text s
+unfolding allPlain
+plain-text [] t = none
+plain-text (x ∷ s) t =
+    let below = ltb-true x 0x80 (and-left (ltb x 0x80) (allPlain s) t) in
+    more (one {a = x} (record { low = omega arith; high = omega arith })) (plain-text s (and-right (ltb x 0x80) (allPlain s) t))

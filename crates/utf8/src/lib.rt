@@ -1,11 +1,12 @@
 // UTF-8 (RFC 3629): whether bytes are a text, where the longest text that begins them ends, and where characters start.
 ghost use mathlib.Core.Path.{_≡_};
-ghost use Prim.Native.Nat.{_<_, _≤_};
+ghost use Prim.Native.Nat.{_<_, _≤_, _^_};
 ghost use mathlib.Core.Bool.{true};
-ghost use lib.ListN.{length};
+ghost use lib.ListN.{length, take};
 ghost use Rattle.utf8.specs.Rfc3629.{Encoded, number as number', place as place', tail as tail', boundary as boundary'};
 ghost use Rattle.utf8.specs.Scan.{ones as ones', low as low', high as high', second as second', two as two', three as three', four as four', width};
-ghost use Rattle.utf8.specs.Plain.{plain, plainFew, Plain, Goes};
+ghost use Rattle.laws.specs.Little.{fromLittle};
+ghost use Rattle.utf8.specs.Plain.{allPlain, Stops, Goes};
 
 // A tail, a byte that goes on with a character, is from 80 to BF.
 const TAIL_FIRST: u8 = 0x80;
@@ -45,6 +46,9 @@ const EIGHT: usize = 8;
 const BLOCK: usize = 16;
 
 const PAGE: usize = 64;
+
+// The highest bit of each of four bytes.
+const HIGHEST_BITS: u64 = 0x8080_8080;
 
 // What the check answers.
 pub enum Encoding {
@@ -175,33 +179,34 @@ fn char_len(s: &[u8]) -> usize
     }
 }
 
-// Whether the first four bytes are plain: below 80, characters of one byte each.
+// The number of the first four bytes, the lowest first.
+fn number_of_four(s: &[u8]) -> u64
+    requires { ⌜ 4 ≤ length (now s) ⌝ }
+    ensures { λ r. ⌜ (r ≡ fromLittle (take 4 (now (s .entry)))) × (r < 2 ^ 32) ⌝ }
+{
+    s[0] as u64 + 256 * (s[1] as u64 + 256 * (s[2] as u64 + 256 * s[3] as u64))
+}
+
+// Whether the first four bytes are plain: below 80, characters of one byte each. None of them has the highest bit.
 fn plain_four(s: &[u8]) -> bool
     requires { ⌜ 4 ≤ length (now s) ⌝ }
-    ensures { λ r. ⌜ r ≡ plain 4 (now (s .entry)) ⌝ }
+    ensures { λ r. ⌜ r ≡ allPlain (take 4 (now (s .entry))) ⌝ }
 {
-    (s[0] < TAIL_FIRST) & (s[1] < TAIL_FIRST) & (s[2] < TAIL_FIRST) & (s[3] < TAIL_FIRST)
+    number_of_four(s) & HIGHEST_BITS == 0
 }
 
 // Whether the first eight bytes are.
 fn plain_eight(s: &[u8]) -> bool
     requires { ⌜ 8 ≤ length (now s) ⌝ }
-    ensures { λ r. ⌜ r ≡ plain 8 (now (s .entry)) ⌝ }
+    ensures { λ r. ⌜ r ≡ allPlain (take 8 (now (s .entry))) ⌝ }
 {
-    (s[0] < TAIL_FIRST)
-        & (s[1] < TAIL_FIRST)
-        & (s[2] < TAIL_FIRST)
-        & (s[3] < TAIL_FIRST)
-        & (s[4] < TAIL_FIRST)
-        & (s[5] < TAIL_FIRST)
-        & (s[6] < TAIL_FIRST)
-        & (s[7] < TAIL_FIRST)
+    plain_four(s) & plain_four(&s[FOUR..])
 }
 
 // Whether the first sixteen bytes are.
 fn plain_block(s: &[u8]) -> bool
     requires { ⌜ 16 ≤ length (now s) ⌝ }
-    ensures { λ r. ⌜ (r ≡ true → Plain 16 (now (s .entry))) ⌝ }
+    ensures { λ r. ⌜ r ≡ allPlain (take 16 (now (s .entry))) ⌝ }
 {
     plain_eight(s) & plain_eight(&s[EIGHT..])
 }
@@ -209,7 +214,7 @@ fn plain_block(s: &[u8]) -> bool
 // Whether the first sixty-four bytes are.
 fn plain_page(s: &[u8]) -> bool
     requires { ⌜ 64 ≤ length (now s) ⌝ }
-    ensures { λ r. ⌜ (r ≡ true → Plain 64 (now (s .entry))) ⌝ }
+    ensures { λ r. ⌜ r ≡ allPlain (take 64 (now (s .entry))) ⌝ }
 {
     plain_block(s)
         & plain_block(&s[BLOCK..])
@@ -217,9 +222,21 @@ fn plain_page(s: &[u8]) -> bool
         & plain_block(&s[3 * BLOCK..])
 }
 
+// Whether up to three bytes are: the first, the middle and the last, which may be one.
+fn plain_three(s: &[u8]) -> bool
+    requires { ⌜ length (now s) < 4 ⌝ }
+    ensures { λ r. ⌜ r ≡ allPlain (now (s .entry)) ⌝ }
+{
+    let n = s.len();
+    if n == 0 {
+        return true;
+    }
+    (s[0] < TAIL_FIRST) & (s[n / 2] < TAIL_FIRST) & (s[n - 1] < TAIL_FIRST)
+}
+
 // Where the pages of sixty-four plain bytes that begin the bytes end.
 fn pages(s: &[u8]) -> usize
-    ensures { λ r. ⌜ (r ≤ length (now (s .entry))) × Plain r (now (s .entry)) ⌝ }
+    ensures { λ r. ⌜ Stops 64 (now (s .entry)) r ⌝ }
 {
     let mut i = 0;
     while PAGE <= s.len() - i {
@@ -233,7 +250,7 @@ fn pages(s: &[u8]) -> usize
 
 // Where the blocks of sixteen plain bytes that begin the bytes end.
 fn blocks(s: &[u8]) -> usize
-    ensures { λ r. ⌜ (r ≤ length (now (s .entry))) × Plain r (now (s .entry)) ⌝ }
+    ensures { λ r. ⌜ Stops 16 (now (s .entry)) r ⌝ }
 {
     let mut i = 0;
     while BLOCK <= s.len() - i {
@@ -245,49 +262,47 @@ fn blocks(s: &[u8]) -> usize
     i
 }
 
-// Whether bytes are plain and from four to fifteen: two tests that overlap reach them all. Most values are, and need no other check.
-pub fn plain_few(s: &[u8]) -> bool
-    ensures { λ r. ⌜ r ≡ plainFew (now (s .entry)) ⌝ }
+// Whether sixteen bytes or more are: blocks or pages of them, and the last one, which need not begin where the one before it ends.
+fn plain_many(s: &[u8]) -> bool
+    requires { ⌜ 16 ≤ length (now s) ⌝ }
+    ensures { λ r. ⌜ r ≡ allPlain (now (s .entry)) ⌝ }
 {
     let n = s.len();
-    if n < FOUR {
+    if n < PAGE {
+        if n - blocks(s) < BLOCK {
+            return plain_block(&s[n - BLOCK..]);
+        }
         return false;
     }
-    if n < EIGHT {
-        return plain_four(s) & plain_four(&s[n - FOUR..]);
-    }
-    if n < BLOCK {
-        return plain_eight(s) & plain_eight(&s[n - EIGHT..]);
+    if n - pages(s) < PAGE {
+        return plain_page(&s[n - PAGE..]);
     }
     false
 }
 
-// Where the pages of plain bytes that begin the bytes and the blocks behind them end.
-fn pages_and_blocks(s: &[u8]) -> usize
-    ensures { λ r. ⌜ (r ≤ length (now (s .entry))) × Plain r (now (s .entry)) ⌝ }
+// Whether all bytes are plain. Up to sixteen are reached by two tests that overlap.
+pub fn plain(s: &[u8]) -> bool
+    ensures { λ r. ⌜ r ≡ allPlain (now (s .entry)) ⌝ }
+{
+    let n = s.len();
+    if n < FOUR {
+        return plain_three(s);
+    }
+    if n < EIGHT {
+        return plain_four(s) & plain_four(&s[n - FOUR..]);
+    }
+    if n <= BLOCK {
+        return plain_eight(s) & plain_eight(&s[n - EIGHT..]);
+    }
+    plain_many(s)
+}
+
+// How many of the first bytes are plain for sure: pages of them, and blocks behind those.
+fn plain_start(s: &[u8]) -> usize
+    ensures { λ r. ⌜ (r ≤ length (now (s .entry))) × (allPlain (take r (now (s .entry))) ≡ true) ⌝ }
 {
     let i = pages(s);
     i + blocks(&s[i..])
-}
-
-// How many of the first bytes are surely plain. The last block, which need not be whole, is tested with bytes before it.
-fn plain_start(s: &[u8]) -> usize
-    ensures { λ r. ⌜ (r ≤ length (now (s .entry))) × Plain r (now (s .entry)) ⌝ }
-{
-    let n = s.len();
-    if plain_few(s) {
-        return n;
-    }
-    if n < BLOCK {
-        return 0;
-    }
-    let i = pages_and_blocks(s);
-    if n - i < BLOCK {
-        if plain_block(&s[n - BLOCK..]) {
-            return n;
-        }
-    }
-    i
 }
 
 // How far the text goes on: a byte that is plain, or a character and the blocks of plain bytes behind it; 0 where no character begins the bytes.

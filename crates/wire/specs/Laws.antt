@@ -1,19 +1,19 @@
 -- Laws of append across the boundary.
-use Prim.Native.Nat.{ℕ, _+_, _*_}
+use Prim.Native.Nat.{ℕ, _+_, _-_, _*_, _≤_}
 use native.Mathlib.Omega.{arith}
 use mathlib.Core.Path.{_≡_, refl, _∙_, ap, sym}
-use mathlib.Core.List.{List, _++_, append-nil}
+use mathlib.Core.List.{List, [], _∷_, _++_, append-nil}
 use mathlib.Core.Bool.{Bool, true, false, not}
 use borrow.Author.Tests.{eqb-true, not-true, not-false}
 use Rattle.laws.specs.Little.{fromLittle}
 use Rattle.laws.specs.Tests.{and-left}
 use Rattle.append.specs.Laws as append
 use lib.Dec.{leb, eqb}
-use lib.ListN.{length, getD, take, drop, drop-of-length-le}
-use lib.Seq.{take-length, drop-cons}
+use lib.ListN.{length, getD, take, drop, length-drop, drop-of-length-le}
+use lib.Seq.{take-all, take-length}
 use Rattle.append.specs.declared.Stream.{Stream}
 use Rattle.append.specs.declared.Answer.{Answer}
-use Rattle.append.specs.declared.Answer.the-variants.{Malformed}
+use Rattle.append.specs.declared.Answer.the-variants.{Added, Malformed}
 use Rattle.append.specs.Append.{Appends, code}
 use Rattle.wire.specs.Wire.{wellFormed, unpacked, packed, repacked, Done, Crosses}
 
@@ -21,30 +21,32 @@ use Rattle.wire.specs.Wire.{wellFormed, unpacked, packed, repacked, Done
 abbrev byteOf : List ℕ → ℕ → ℕ
 byteOf r i = getD r i 0
 
-count-of : (r : List ℕ) (low high : ℕ) → length r ≡ 9
-    → low ≡ byteOf r 1 + 256 * (byteOf r 2 + 256 * (byteOf r 3 + 256 * byteOf r 4))
-    → high ≡ byteOf r 5 + 256 * (byteOf r 6 + 256 * (byteOf r 7 + 256 * byteOf r 8))
-    → low + 0x1_0000_0000 * high ≡ fromLittle (drop 1 r)
-count-of r low high n l h =
-    rw (
-      drop-cons r 1 0 (omega arith),
-      drop-cons r 2 0 (omega arith),
-      drop-cons r 3 0 (omega arith),
-      drop-cons r 4 0 (omega arith),
-      drop-cons r 5 0 (omega arith),
-      drop-cons r 6 0 (omega arith),
-      drop-cons r 7 0 (omega arith),
-      drop-cons r 8 0 (omega arith),
-      drop-of-length-le r {i = 9} (omega arith),
-    )
-    (omega arith)
+rest : (r : List ℕ) (k : ℕ) → take (length r - k) (drop k r) ≡ drop k r
+rest r k = take-all (length r - k) (drop k r) (omega (arith, length-drop k r))
 
-pub unpacks : (r : List ℕ) (low high : ℕ) → length r ≡ 9
-    → low ≡ byteOf r 1 + 256 * (byteOf r 2 + 256 * (byteOf r 3 + 256 * byteOf r 4))
-    → high ≡ byteOf r 5 + 256 * (byteOf r 6 + 256 * (byteOf r 7 + 256 * byteOf r 8))
-    → _≡_ {A = Stream} (record { spaced = eqb (byteOf r 0) 1; count = low + 0x1_0000_0000 * high }) (unpacked r)
+pub left-of : (r : List ℕ) (k w : ℕ) → k + w ≤ length r → w ≤ length (take (length r - k) (drop k r))
+left-of r k w h = rw (rest r k, length-drop k r) (omega arith)
+
+-- two halves are a whole
+halves : (s : List ℕ) → fromLittle (take 4 s) + 0x1_0000_0000 * fromLittle (take 4 (drop 4 s)) ≡ fromLittle (take 8 s)
+halves [] = refl
+halves (a ∷ []) = omega arith
+halves (a ∷ b ∷ []) = omega arith
+halves (a ∷ b ∷ c ∷ []) = omega arith
+halves (a ∷ b ∷ c ∷ d ∷ []) = omega arith
+halves (a ∷ b ∷ c ∷ d ∷ e ∷ []) = omega arith
+halves (a ∷ b ∷ c ∷ d ∷ e ∷ f ∷ []) = omega arith
+halves (a ∷ b ∷ c ∷ d ∷ e ∷ f ∷ g ∷ []) = omega arith
+halves (a ∷ b ∷ c ∷ d ∷ e ∷ f ∷ g ∷ h ∷ s) = omega arith
+
+pub is-whole : (s : List ℕ) (low high : ℕ) → low ≡ fromLittle (take 4 s) → high ≡ fromLittle (take 4 (take (length s - 4) (drop 4 s)))
+    → low + 0x1_0000_0000 * high ≡ fromLittle (take 8 s)
+is-whole s low high l e = rw (l, e, rest s 4) (halves s)
+
+pub unpacks : (r : List ℕ) (count : ℕ) → length r ≡ 9 → count ≡ fromLittle (take 8 (take (length r - 1) (drop 1 r)))
+    → _≡_ {A = Stream} (record { spaced = eqb (byteOf r 0) 1; count = count }) (unpacked r)
 unfolding unpacked
-unpacks r low high n l h = rw (count-of r low high n l h)
+unpacks r count n e = rw (e, rest r 1, take-all 8 (drop 1 r) (omega (arith, length-drop 1 r)))
 
 -- nine bytes copied over nine
 pub copied-over : (r v z : List ℕ) → length r ≡ 9 → length v ≡ 9 → z ≡ take (length v) v ++ drop (length v) r → z ≡ v
@@ -67,6 +69,25 @@ pub well : (r out : List ℕ) (token : ℕ) (value : List ℕ) (b : Bool) (s t :
     → Appends s out token value a t out′ → answer ≡ code a → r′ ≡ repacked a t r → Crosses r out token value answer r′ out′
 well r out token value b s t a answer r′ out′ e h u d c l =
     record { verdict = a; left = t; done = rw (← e, not-false b h, ← u) d; answers = c; leaves = l }
+
+-- what is taken up is the value
+pub taken-whole : (rec : Stream) (out : List ℕ) (token : ℕ) (v : List ℕ) (a : Answer) (rec′ : Stream) (out′ : List ℕ)
+    → Appends rec out token (take (length v - 0) (drop 0 v)) a rec′ out′ → Appends rec out token v a rec′ out′
+taken-whole rec out token v a rec′ out′ x = rw (rest v 0) at x
+
+-- a token that was laid at once
+pub laid-crosses : (r out : List ℕ) (token : ℕ) (value : List ℕ) (s t : Stream) (n : ℕ) (r′ out′ : List ℕ) → wellFormed r ≡ true → s ≡ unpacked r
+    → Appends s out token value (Added (t .count - s .count)) t out′ → n ≡ t .count - s .count → r′ ≡ packed t → Crosses r out token value n r′ out′
+unfolding code
+laid-crosses r out token value s t n r′ out′ w u a e p =
+    well r out token value true s t (Added (t .count - s .count)) n r′ out′ (sym w) refl u a (omega (arith, e)) p
+
+-- nothing was done to the output before
+pub then-crosses : (r out o : List ℕ) (token : ℕ) (value : List ℕ) (n : ℕ) (r′ out′ : List ℕ) → o ≡ out → Crosses r o token value n r′ out′ → Crosses r out token value n r′ out′
+then-crosses r out o token value n r′ out′ e x = rw e at x
+
+pub nine-long : (r : List ℕ) → wellFormed r ≡ true → length r ≡ 9
+nine-long r w = well-length r true (sym w) refl
 
 -- no two outcomes satisfy the contract
 done-unique : (w : Bool) (rec : Stream) (out : List ℕ) (token : ℕ) (value : List ℕ) (a b : Answer) (s t : Stream) (o p : List ℕ)

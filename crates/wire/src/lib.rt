@@ -1,10 +1,16 @@
 // Append as it crosses to the engine (01, section 9): the record as nine bytes, the answer as one number.
+//
+// A token is laid at once where it may be. The way with all refusals is a function that two others call: so the compiler
+// leaves it by itself, and the quick ways need few registers.
 ghost use mathlib.Core.Path.{_≡_};
-ghost use Prim.Native.Nat.{_+_, _*_, _%_, _<_, _^_};
-ghost use lib.ListN.{length};
+ghost use Prim.Native.Nat.{_+_, _-_, _*_, _%_, _≤_, _<_, _^_};
+ghost use mathlib.Core.Bool.{true};
+ghost use lib.ListN.{length, take};
+ghost use Rattle.laws.specs.Little.{fromLittle};
 ghost use Rattle.append.specs.Append.{place as place', code as code'};
 ghost use Rattle.wire.specs.Wire.{wellFormed, unpacked, bitOf, packed, repacked, Crosses};
 use append::Answer;
+use append::Quick;
 use append::Stream;
 
 // All places are below this number.
@@ -12,6 +18,12 @@ pub const PLACES: u64 = 0x1_0000_0000;
 
 // A record's bytes: the bit, and the count in eight.
 const RECORD: usize = 9;
+
+// Where the count begins.
+const COUNT: usize = 1;
+
+// Its bytes are read in two halves of so many.
+const HALF: usize = 4;
 
 // A number of 01's table and a place as one number.
 fn joined(number: u64, place: u64) -> u64
@@ -39,11 +51,22 @@ fn well_formed(rec: &[u8]) -> bool
     rec[0] <= 1
 }
 
-// The number of four bytes, the lowest first.
-fn half(a: u8, b: u8, c: u8, d: u8) -> u64
-    ensures { λ r. ⌜ (r ≡ a + 256 * (b + 256 * (c + 256 * d))) × (r < 2 ^ 32) ⌝ }
+// The number of the first four bytes, the lowest first.
+fn half(s: &[u8]) -> u64
+    requires { ⌜ 4 ≤ length (now s) ⌝ }
+    ensures { λ r. ⌜ (r ≡ fromLittle (take 4 (now (s .entry)))) × (r < 2 ^ 32) ⌝ }
 {
-    a as u64 + 256 * (b as u64 + 256 * (c as u64 + 256 * d as u64))
+    s[0] as u64 + 256 * (s[1] as u64 + 256 * (s[2] as u64 + 256 * s[3] as u64))
+}
+
+// The number of the first eight bytes. It is a function of its own so that the compiler reads them at once.
+fn whole(s: &[u8]) -> u64
+    requires { ⌜ 8 ≤ length (now s) ⌝ }
+    ensures { λ r. ⌜ r ≡ fromLittle (take 8 (now (s .entry))) ⌝ }
+{
+    let low = half(s);
+    let high = half(&s[HALF..]);
+    low + 0x1_0000_0000 * high
 }
 
 // The record of nine bytes.
@@ -51,11 +74,9 @@ fn unpack(rec: &[u8]) -> Stream
     requires { ⌜ length (now rec) ≡ 9 ⌝ }
     ensures { λ r. ⌜ r ≡ unpacked (now (rec .entry)) ⌝ }
 {
-    let low = half(rec[1], rec[2], rec[3], rec[4]);
-    let high = half(rec[5], rec[6], rec[7], rec[8]);
     Stream {
         spaced: rec[0] == 1,
-        count: (low + 0x1_0000_0000 * high) as usize,
+        count: whole(&rec[COUNT..]) as usize,
     }
 }
 
@@ -122,6 +143,54 @@ fn repack(rec: &mut [u8], a: Answer, s: Stream)
     }
 }
 
+// A token was laid where the count was, and left s: the record is packed, and the answer is how many bytes were added.
+fn laid(rec: &mut [u8], count: usize, s: Stream) -> u64
+    requires { ⌜ (length (now rec) ≡ 9) × (count ≤ s .count) ⌝ }
+    ensures { λ r. ⌜ (r ≡ s .count - count) × (now (rec .exit) ≡ packed s) ⌝ }
+{
+    pack(rec, s);
+    (s.count - count) as u64
+}
+
+// One token over a record that is well formed, with all refusals asked for. The value is taken up first, so that where it lies comes in a register.
+fn checked(rec: &mut [u8], out: &mut [u8], token: u16, value: &[u8]) -> u64
+    requires { ⌜ wellFormed (now rec) ≡ true ⌝ }
+    ensures { λ r. ⌜ Crosses (now (rec .entry)) (now (out .entry)) token (now (value .entry)) r (now (rec .exit)) (now (out .exit)) ⌝ }
+{
+    let v = &value[0..];
+    let next = append::step(unpack(rec), out, token, v);
+    let answer = next.answer;
+    let left = next.rec;
+    repack(rec, answer, left);
+    code(answer)
+}
+
+// A token with no value bytes: laid at once where it may be.
+fn bare(rec: &mut [u8], out: &mut [u8], token: u16, value: &[u8]) -> u64
+    requires { ⌜ (wellFormed (now rec) ≡ true) × (length (now value) ≡ 0) ⌝ }
+    ensures { λ r. ⌜ Crosses (now (rec .entry)) (now (out .entry)) token (now (value .entry)) r (now (rec .exit)) (now (out .exit)) ⌝ }
+{
+    let before = unpack(rec);
+    let q = append::word_alone(before, out, token);
+    match q {
+        Quick::Done(s) => laid(rec, before.count, s),
+        Quick::Not => checked(rec, out, token, value),
+    }
+}
+
+// A token with a value: laid at once where it may be.
+fn valued(rec: &mut [u8], out: &mut [u8], token: u16, value: &[u8]) -> u64
+    requires { ⌜ wellFormed (now rec) ≡ true ⌝ }
+    ensures { λ r. ⌜ Crosses (now (rec .entry)) (now (out .entry)) token (now (value .entry)) r (now (rec .exit)) (now (out .exit)) ⌝ }
+{
+    let before = unpack(rec);
+    let q = append::value_alone(before, out, token, value);
+    match q {
+        Quick::Done(s) => laid(rec, before.count, s),
+        Quick::Not => checked(rec, out, token, value),
+    }
+}
+
 // Appends one token: 01's append, with the record as nine bytes. Answers number * 2^32 + place.
 pub fn append(rec: &mut [u8], out: &mut [u8], token: u16, value: &[u8]) -> u64
     ensures { λ r. ⌜ Crosses (now (rec .entry)) (now (out .entry)) token (now (value .entry)) r (now (rec .exit)) (now (out .exit)) ⌝ }
@@ -129,9 +198,8 @@ pub fn append(rec: &mut [u8], out: &mut [u8], token: u16, value: &[u8]) -> u64
     if !well_formed(rec) {
         return code(Answer::Malformed);
     }
-    let next = append::step(unpack(rec), out, token, value);
-    let answer = next.answer;
-    let left = next.rec;
-    repack(rec, answer, left);
-    code(answer)
+    if value.len() == 0 {
+        return bare(rec, out, token, value);
+    }
+    valued(rec, out, token, value)
 }

@@ -1,32 +1,24 @@
--- `append::step` meets its contract: the word is the kind's spelling.
-use native.Mathlib.Omega.{arith}
-use mathlib.Core.Path.{sym}
-use lib.Seq.{length-take-le}
-use Rattle.spelling.specs.Words.{begins, within}
+-- `append::step` meets its contract: the pool spells the kind as the table does.
+use Prim.Native.Nat.{ℕ}
+use mathlib.Core.Path.{_∙_, ap}
+use mathlib.Core.List.{List}
+use Rattle.spelling.specs.Table.{spellingIn}
+use Rattle.spelling.specs.Laws.{spells}
 use Rattle.append.specs.Laws.{word-is}
 use borrow.Author.Needs.{needs}
 use Rattle.append.proofs.step.Statement.{statement}
 use Rattle.append.proofs.step.Tie as tie
 
-array-share-prefix-bytes : tie.Need-array-share-prefix-bytes
-array-share-prefix-bytes c =
-    let word = c .before .before .of in
-    omega (arith, within _ _ (word .result .bytes) (word .ensures .0) (word .ensures .1))
-
-slice-aggregate-step-word : tie.Need-slice-aggregate-step-word
-slice-aggregate-step-word c =
-    let word = c .before .before .before .of in
-    sym (length-take-le _ (word .result .bytes) (within _ _ (word .result .bytes) (word .ensures .0) (word .ensures .1)))
-
-step-word-requires : tie.Need-step-word-requires
-step-word-requires c κs =
-    let at-of = c .before .before .before in
-    let word = at-of .of in
-    word-is _ _ _ (at-of .before .number-of .ensures) (begins _ _ (word .result .bytes) (word .ensures .0) (word .ensures .1))
+checked-requires : tie.Need-checked-requires
+checked-requires c κs =
+    let at-number-of = c .before in
+    let at-pool = at-number-of .before .before .before in
+    let k = at-number-of .number-of .result in
+    word-is _ _ k (at-number-of .number-of .ensures) (c .of .ensures ∙ ap (λ (p : List ℕ). spellingIn p k) (at-pool .pool .ensures) ∙ spells k)
 
 pub step-spec : {M : Type 1} → statement M
 step-spec =
     tie.close
     (tie.spec
-    (λ c κs. search needs) (λ c κs. search needs) array-share-prefix-bytes slice-aggregate-step-word step-word-requires (λ c. search needs)
-    (λ c. c .before .before .step-word .ensures))
+    (λ c κs. search needs) (λ c. search needs) (λ c κs. search needs) (λ c κs. search needs) checked-requires (λ c. search needs)
+    (λ c. c .before .before .checked .ensures))

@@ -24,7 +24,7 @@ plain-start-requires c κs = search needs
 loop-holds : tie.Need-loop-holds Inv-loop μ-loop
 loop-holds c =
     let start = c .plain-start in
-    (start .ensures .0, plain-text (start .result) (now (c .before .before .args .s)) (start .ensures .0) (start .ensures .1))
+    (start .ensures .0, plain-text (take (start .result) (now (c .before .before .args .s))) (start .ensures .1))
 
 sub-next-len : tie.Need-sub-next-len Inv-loop μ-loop
 sub-next-len c = search needs

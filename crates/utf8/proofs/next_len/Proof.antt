@@ -50,10 +50,10 @@ returns-3 c =
     let char = c .before .before .before .char-len in
     let more = c .blocks2 in
     goes-far s (char .result) (more .result) (goes-width s (char .result) (char .ensures)) (c .before .before .if2 .left)
-    (rw (rest s (char .result)) at (more .ensures .0)) (rw (rest s (char .result)) at (more .ensures .1))
+    (rw (rest s (char .result)) at (more .ensures .within)) (rw (rest s (char .result)) at (more .ensures .plain))
 
 add-result : tie.Need-add-result
-add-result c = omega (arith, fits (c .before .before), c .blocks2 .ensures .0, c .before .before .before .before .before .before .before .good .0)
+add-result c = omega (arith, fits (c .before .before), c .blocks2 .ensures .within, c .before .before .before .before .before .before .before .good .0)
 
 pub next-len-spec : {M : Type 1} → statement M
 next-len-spec =

@@ -1,45 +1,45 @@
 -- `utf8::pages` meets its contract. The loop's invariant: `i` is within the bytes, and those before it are plain; what is left falls with each turn.
 -- Assumes nothing.
 use Prim.Native.Nat.{_≤_, _-_}
+use mathlib.Core.Path.{_≡_, _∙_, sym}
+use mathlib.Core.Bool.{true}
 use denote.Ref.{now}
 use native.Mathlib.Omega.{arith}
-use lib.ListN.{length}
+use lib.ListN.{length, take}
 use borrow.Author.Needs.{needs}
-use Rattle.utf8.specs.Plain.{Plain, plain-none, not-false, left-of, next}
+use borrow.Author.Tests.{not-true, not-false}
+use Rattle.utf8.specs.Plain.{allPlain, none-plain, left-of, both, stop, stop-short}
 use Rattle.utf8.proofs.pages.Statement.{statement}
 use Rattle.utf8.proofs.pages.Tie as tie
 
 abbrev Inv-loop : tie.InvT-loop
-Inv-loop s i₀ i = (i ≤ length s) × Plain i s
+Inv-loop s i₀ i = (i ≤ length s) × (allPlain (take i s) ≡ true)
 
 abbrev μ-loop : tie.MeasureT-loop
 μ-loop s i₀ i = length s - i
 
 loop-holds : tie.Need-loop-holds Inv-loop μ-loop
-loop-holds c = (omega arith, plain-none (now (c .before .args .s)))
-
-sub-loop : tie.Need-sub-loop Inv-loop μ-loop
-sub-loop c = search needs
-
-sub-plain-page : tie.Need-sub-plain-page Inv-loop μ-loop
-sub-plain-page c = search needs
-
-part-plain-page-start : tie.Need-part-plain-page-start Inv-loop μ-loop
-part-plain-page-start c = search needs
-
-part-plain-page-end : tie.Need-part-plain-page-end Inv-loop μ-loop
-part-plain-page-end c = search needs
+loop-holds c = (omega arith, sym (none-plain (take 0 (now (c .before .args .s))) (omega arith)))
 
 plain-page-requires : tie.Need-plain-page-requires Inv-loop μ-loop
-plain-page-requires c κs = left-of (now (c .before .before .before .before .args .s)) (c .before .before .loop .i) 64 (c .before .loop-test .taken)
+plain-page-requires c κs = left-of (now (c .before .before .before .before .args .s)) (c .before .before .loop .i) 64 (omega (arith, c .before .loop-test .taken))
 
 returns : tie.Need-returns Inv-loop μ-loop
-returns c = search needs
+returns c =
+    let loop = c .before .before .before .before .loop in
+    let test = c .before .plain-page in
+    stop (now (c .before .before .before .before .before .before .args .s)) (loop .i) 64 (test .result) (loop .inv .0) (loop .inv .1) (test .ensures)
+    (not-true (test .result) (c .if1 .taken))
 
 loop-again : tie.Need-loop-again Inv-loop μ-loop
 loop-again c =
     let loop = c .before .before .before .before .loop in
-    (omega arith, next (now (c .before .before .before .before .before .before .args .s)) (loop .i) 64 (loop .inv .1) (c .before .plain-page .ensures (not-false _ (c .if1 .left))))
+    let test = c .before .plain-page in (
+      omega arith,
+      sym
+          (both (now (c .before .before .before .before .before .before .args .s)) (loop .i) 64 true true (sym (loop .inv .1))
+          (sym (not-false (test .result) (c .if1 .left)) ∙ test .ensures)),
+    )
 
 add-i : tie.Need-add-i Inv-loop μ-loop
 add-i c = omega (arith, loop-again c)
@@ -48,22 +48,13 @@ loop-less : tie.Need-loop-less Inv-loop μ-loop
 loop-less c = omega (arith, loop-again c)
 
 returns-2 : tie.Need-returns-2 Inv-loop μ-loop
-returns-2 c = search needs
+returns-2 c =
+    let loop = c .before .loop in
+    stop-short (now (c .before .before .before .args .s)) (loop .i) 64 (loop .inv .0) (loop .inv .1) (omega (arith, c .loop-test .left))
 
 pub pages-spec : {M : Type 1} → statement M
 pages-spec =
     tie.close
     (tie.spec
-    Inv-loop
-    μ-loop
-    loop-holds
-    sub-loop
-    sub-plain-page
-    part-plain-page-start
-    part-plain-page-end
-    plain-page-requires
-    returns
-    add-i
-    loop-less
-    loop-again
-    returns-2)
+    Inv-loop μ-loop loop-holds (λ c. search needs) (λ c. search needs) (λ c. search needs) (λ c. search needs) plain-page-requires
+    returns add-i loop-less loop-again returns-2)

@@ -1,0 +1,343 @@
+-- Laws of the tokens that are laid at once: what they write, what bit they leave, and that no refusal fits.
+use Prim.Native.Nat.{ℕ, _+_, _-_, _≤_, _<_}
+use native.Mathlib.Omega.{arith}
+use native.Mathlib.Nat.{suc-ne-zero}
+use mathlib.Core.Path.{_≡_, refl, _∙_, ap, sym}
+use mathlib.Core.List.{List, [], _∷_, _++_, append-nil}
+use mathlib.Core.Bool.{Bool, true, false, not, cond, _&&_, _||_, Bool·beq, and-false}
+use lib.Dec.{eqb, leb}
+use lib.ListN.{length, getD, length-append}
+use lib.Seq.{sets, sets-eq}
+use borrow.Author.Tests.{le-ltb, le-leb, lt-leb, leb-true, eq-eqb, ne-eqb, eqb-true, not-true}
+use Rattle.laws.specs.Among.{all, each}
+use Rattle.laws.specs.Below.{below, at}
+use Rattle.laws.specs.Tests.{and-left, and-right, beq}
+use Rattle.utf8.specs.Plain.{allPlain, plain-text}
+use Rattle.utf8.specs.declared.Encoding.the-variants.{Valid}
+use Rattle.blank.specs.Blank.{allBlank}
+use Rattle.spelling.specs.Rows.{rows}
+use Rattle.spelling.specs.Spelling.{row, known, spelling}
+use Rattle.spelling.specs.Token.{TK-BLOB}
+use Rattle.spelling.specs.Laws.{count, everywhere, silent}
+use Rattle.stream.specs.Stream.{tight, opens, gap, gapped, written, spelledBit, valuedBit, added, left, adds, leaves}
+use Rattle.store.specs.Laid.{lead, roomFor, laidTo, laidOut}
+use Rattle.store.specs.Laws as store
+use Rattle.store.specs.Laws.{to-not-apart, at-most-one, laid-no}
+use Rattle.store.specs.declared.Laid.{Laid}
+use Rattle.store.specs.declared.Laid.the-variants.{Not as NotLaid, To}
+use Rattle.append.specs.declared.Stream.{Stream}
+use Rattle.append.specs.declared.Answer.{Answer}
+use Rattle.append.specs.declared.Answer.the-variants.{Added}
+use Rattle.append.specs.declared.Check.the-variants.{Fine}
+use Rattle.append.specs.declared.Quick.{Quick}
+use Rattle.append.specs.declared.Quick.the-variants.{Not, Done}
+use Rattle.append.specs.Append.{Appends, numberOf, present, tokenOf, news, longest, room, recordAfter, outputAfter}
+use Rattle.append.specs.Steps.{Checks}
+use Rattle.append.specs.Laws.{empty, fine, accepted}
+use Rattle.append.specs.Quick.{aloneWords, alone, marked, tightMarks, openingMarks, valueMay, wordMay, quick, quickOut, Comes}
+
+-- ---- the table: who has a spelling is known and no blob; one of one byte is a mark of the sets, and a longer one neither tight nor opening
+shaped : ℕ → Bool
+shaped k =
+    eqb (length (spelling k)) 0
+    || ((known k && not (eqb k TK-BLOB))
+    && cond (eqb (length (spelling k)) 1)
+    (Bool·beq (tight k) (marked tightMarks (getD (spelling k) 0 0)) && Bool·beq (opens k) (marked openingMarks (getD (spelling k) 0 0)))
+    (not (tight k) && not (opens k)))
+
+shaped-below : below shaped count ≡ true
+unfolding shaped known spelling row rows tight opens marked
+shaped-below = refl
+
+shaped-all : (k : ℕ) → shaped k ≡ true
+unfolding shaped
+shaped-all k = everywhere (λ n. shaped n ≡ true) k (at shaped count shaped-below k) (λ l. rw (silent k (omega arith)))
+
+module _ (k : ℕ) (s : length (spelling k) ≡ 0 → ⊥) where
+  has : (known k && not (eqb k TK-BLOB)) && cond (eqb (length (spelling k)) 1)
+      (Bool·beq (tight k) (marked tightMarks (getD (spelling k) 0 0)) && Bool·beq (opens k) (marked openingMarks (getD (spelling k) 0 0)))
+      (not (tight k) && not (opens k)) ≡ true
+  unfolding shaped
+  has = rw (ne-eqb (length (spelling k)) 0 s) at (shaped-all k)
+
+  pub spelled-known : known k ≡ true
+  spelled-known = and-left (known k) (not (eqb k TK-BLOB)) (and-left (known k && not (eqb k TK-BLOB)) _ has)
+
+  spelled-no-blob : eqb k TK-BLOB ≡ false
+  spelled-no-blob = not-true (eqb k TK-BLOB) (and-right (known k) (not (eqb k TK-BLOB)) (and-left (known k && not (eqb k TK-BLOB)) _ has))
+
+  module _ (one : length (spelling k) ≡ 1) where
+    of-one : Bool·beq (tight k) (marked tightMarks (getD (spelling k) 0 0)) && Bool·beq (opens k) (marked openingMarks (getD (spelling k) 0 0)) ≡ true
+    of-one = rw (eq-eqb (length (spelling k)) 1 one) at (and-right (known k && not (eqb k TK-BLOB)) _ has)
+
+    mark-tight : tight k ≡ marked tightMarks (getD (spelling k) 0 0)
+    mark-tight = beq _ _ (and-left (Bool·beq (tight k) (marked tightMarks (getD (spelling k) 0 0))) _ of-one)
+
+    mark-opens : opens k ≡ marked openingMarks (getD (spelling k) 0 0)
+    mark-opens = beq _ _ (and-right (Bool·beq (tight k) (marked tightMarks (getD (spelling k) 0 0))) _ of-one)
+
+  module _ (more : length (spelling k) ≡ 1 → ⊥) where
+    of-more : not (tight k) && not (opens k) ≡ true
+    of-more = rw (ne-eqb (length (spelling k)) 1 more) at (and-right (known k && not (eqb k TK-BLOB)) _ has)
+
+    word-tight : tight k ≡ false
+    word-tight = not-true (tight k) (and-left (not (tight k)) (not (opens k)) of-more)
+
+    word-opens : opens k ≡ false
+    word-opens = not-true (opens k) (and-right (not (tight k)) (not (opens k)) of-more)
+
+-- ---- what a spelling alone writes, and the bit that it leaves
+or-false : (b : Bool) → (b || false) ≡ b
+or-false true = refl
+or-false false = refl
+
+opened : (b : Bool) (k : ℕ) (w : List ℕ) → (length w ≡ 0 → ⊥) → spelledBit b k w ≡ opens k
+unfolding spelledBit
+opened b k [] s = absurd (s refl)
+opened b k (x ∷ w) s = refl
+
+module _ (rec : Stream) (token : ℕ) (p : present token ≡ false) (s : length (spelling (numberOf token)) ≡ 0 → ⊥) where
+  word-news : lead (rec .spaced || tight (numberOf token)) ++ spelling (numberOf token) ≡ news rec token []
+  unfolding news adds added gap lead written tokenOf
+  word-news =
+      let k = numberOf token in
+      rw (p, spelled-no-blob k s) (ap (λ (w : List ℕ). cond (rec .spaced || tight k) [] (32 ∷ []) ++ w) (sym (append-nil (spelling k))))
+
+  word-leaves : opens (numberOf token) ≡ leaves (rec .spaced) (tokenOf token [])
+  unfolding leaves left valuedBit tokenOf
+  word-leaves =
+      let k = numberOf token in
+      rw (p, spelled-no-blob k s) (sym (opened (gapped (rec .spaced) k) k (spelling k) s))
+
+-- ---- and what a value alone does
+shapedAlone : ℕ → Bool
+shapedAlone token =
+    let k = numberOf token in
+    (present token && known k) && (eqb (length (spelling k)) 0 && (not (tight k) && not (eqb k TK-BLOB)))
+
+alone-all : all shapedAlone aloneWords ≡ true
+unfolding shapedAlone present numberOf known spelling row rows tight
+alone-all = refl
+
+no-length : (w : List ℕ) → eqb (length w) 0 ≡ true → w ≡ []
+no-length [] e = refl
+no-length (x ∷ w) e = absurd (suc-ne-zero (length w) (eqb-true (length (x ∷ w)) 0 e))
+
+module _ (token : ℕ) (a : alone token ≡ true) where
+  kind : ℕ
+  kind = numberOf token
+
+  is-alone : shapedAlone token ≡ true
+  unfolding alone
+  is-alone = each shapedAlone token aloneWords alone-all a
+
+  alone-present : present token ≡ true
+  unfolding shapedAlone kind
+  alone-present = and-left (present token) (known kind) (and-left (present token && known kind) _ is-alone)
+
+  alone-known : known kind ≡ true
+  unfolding shapedAlone kind
+  alone-known = and-right (present token) (known kind) (and-left (present token && known kind) _ is-alone)
+
+  alone-rest : (eqb (length (spelling kind)) 0 && (not (tight kind) && not (eqb kind TK-BLOB))) ≡ true
+  unfolding shapedAlone kind
+  alone-rest = and-right (present token && known kind) _ is-alone
+
+  alone-silent : spelling kind ≡ []
+  alone-silent = no-length (spelling kind) (and-left (eqb (length (spelling kind)) 0) _ alone-rest)
+
+  alone-kind : (not (tight kind) && not (eqb kind TK-BLOB)) ≡ true
+  alone-kind = and-right (eqb (length (spelling kind)) 0) _ alone-rest
+
+  alone-loose : tight kind ≡ false
+  alone-loose = not-true (tight kind) (and-left (not (tight kind)) _ alone-kind)
+
+  alone-no-blob : eqb kind TK-BLOB ≡ false
+  alone-no-blob = not-true (eqb kind TK-BLOB) (and-right (not (tight kind)) _ alone-kind)
+
+  value-news : (rec : Stream) (value : List ℕ) → lead (rec .spaced) ++ value ≡ news rec token value
+  unfolding kind news adds added gap lead written tokenOf
+  value-news rec value = rw (alone-present, alone-no-blob, alone-silent, alone-loose, or-false (rec .spaced))
+
+  value-leaves : (rec : Stream) (value : List ℕ) → allBlank value ≡ leaves (rec .spaced) (tokenOf token value)
+  unfolding kind leaves left valuedBit tokenOf
+  value-leaves rec value = rw (alone-present, alone-no-blob)
+
+-- ---- what `lay_all` did is what comes of the bytes
+none : (t : Bool) (d : ℕ) (l : Laid) → l ≡ cond t (To d) NotLaid → l ≡ NotLaid → t ≡ false
+none true d l e n = absurd (to-not-apart d (sym e ∙ n))
+none false d l e n = refl
+
+same-end : (c d : ℕ) → To c ≡ To d → c ≡ d
+same-end c d e = cc
+
+all-of : (t : Bool) (b : Bool) (c d : ℕ) (l : Laid) → l ≡ cond t (To d) NotLaid → l ≡ To c
+    → _≡_ {A = Quick} (Done (record { spaced = b; count = c })) (cond t (Done (record { spaced = b; count = d })) Not)
+all-of true b c d l e g = rw (same-end c d (sym g ∙ e))
+all-of false b c d l e g = absurd (to-not-apart c (sym g ∙ e))
+
+pub nothing : (may : Bool) (rec : Stream) (out bytes : List ℕ) (bit : Bool) → may ≡ false → Comes may rec out bytes bit Not out
+unfolding quick quickOut
+nothing may rec out bytes bit e = rw e (refl, refl)
+
+module _ (rec : Stream) (x : Bool) (v out out′ : List ℕ) (l : Laid) (e : l ≡ laidTo (rec .count) (length out) x v) (f : out′ ≡ laidOut (rec .count) out x v) where
+  pub laid-none : (bytes : List ℕ) (bit : Bool) → l ≡ NotLaid → Comes (roomFor (rec .count) (length out) v) rec out bytes bit Not out′
+  unfolding laidTo
+  laid-none bytes bit n =
+      rw (laid-no (rec .count) x v out out′ l e f n)
+      (nothing _ rec out bytes bit (none (roomFor (rec .count) (length out) v) (rec .count + length (lead x ++ v)) l e n))
+
+  pub laid-all : (closed y bit : Bool) (c : ℕ) → l ≡ To c → x ≡ closed → y ≡ bit
+      → Comes (roomFor (rec .count) (length out) v) rec out (lead closed ++ v) bit (Done (record { spaced = y; count = c })) out′
+  unfolding laidTo laidOut quick quickOut
+  laid-all closed y bit c g p q =
+      rw (← p, ← q) (all-of (roomFor (rec .count) (length out) v) y c (rec .count + length (lead x ++ v)) l e g, f)
+
+-- ---- a value: where it may be laid, and that it is what the token writes
+module _ (rec : Stream) (size token : ℕ) (value : List ℕ) where
+  pub no-value : length value ≡ 0 → valueMay rec size token value ≡ false
+  unfolding valueMay
+  no-value e = rw (store.none (rec .count) size value e, and-false, and-false, and-false)
+
+  pub not-alone : alone token ≡ false → valueMay rec size token value ≡ false
+  unfolding valueMay
+  not-alone e = rw e
+
+  pub not-plain : allPlain value ≡ false → valueMay rec size token value ≡ false
+  unfolding valueMay
+  not-plain e = rw (e, and-false)
+
+  pub over-long : longest < length value → valueMay rec size token value ≡ false
+  unfolding valueMay
+  over-long h = rw (lt-leb (length value) longest h, and-false, and-false)
+
+  may-be : alone token ≡ true → allPlain value ≡ true → length value ≤ longest → valueMay rec size token value ≡ roomFor (rec .count) size value
+  unfolding valueMay
+  may-be a p h = rw (a, p, le-leb (length value) longest h)
+
+pub value-comes : (rec : Stream) (out : List ℕ) (token : ℕ) (value : List ℕ) (r : Quick) (out′ : List ℕ) → alone token ≡ true → allPlain value ≡ true → length value ≤ longest
+    → Comes (roomFor (rec .count) (length out) value) rec out (lead (rec .spaced) ++ value) (allBlank value) r out′
+    → Comes (valueMay rec (length out) token value) rec out (news rec token value) (leaves (rec .spaced) (tokenOf token value)) r out′
+value-comes rec out token value r out′ a p h c =
+    rw (may-be rec (length out) token value a p h, ← value-news token a rec value, ← value-leaves token a rec value) c
+
+-- ---- a spelling
+pub with-value : (rec : Stream) (size token : ℕ) → present token ≡ true → wordMay rec size token ≡ false
+unfolding wordMay
+with-value rec size token p = rw p
+
+pub word-comes : (rec : Stream) (out : List ℕ) (token : ℕ) (w : List ℕ) (r : Quick) (out′ : List ℕ) → w ≡ spelling (numberOf token) → present token ≡ false
+    → Comes (roomFor (rec .count) (length out) w) rec out (news rec token []) (leaves (rec .spaced) (tokenOf token [])) r out′
+    → Comes (wordMay rec (length out) token) rec out (news rec token []) (leaves (rec .spaced) (tokenOf token [])) r out′
+unfolding wordMay
+word-comes rec out token w r out′ e p c = rw (p, ← e) c
+
+module _ (rec : Stream) (out : List ℕ) (token : ℕ) (w : List ℕ) (r : Quick) (out′ : List ℕ) (e : w ≡ spelling (numberOf token)) (p : present token ≡ false) where
+  bare-comes : (tight-is opens-is : Bool) → (length w ≡ 0 → ⊥) → tight (numberOf token) ≡ tight-is → opens (numberOf token) ≡ opens-is
+      → Comes (roomFor (rec .count) (length out) w) rec out (lead (rec .spaced || tight-is) ++ w) opens-is r out′
+      → Comes (roomFor (rec .count) (length out) w) rec out (news rec token []) (leaves (rec .spaced) (tokenOf token [])) r out′
+  bare-comes tight-is opens-is s t o c =
+      let z : length (spelling (numberOf token)) ≡ 0 → ⊥ = rw e at s in
+      rw (← word-news rec token p z, ← word-leaves rec token p z, t, o, ← e) c
+
+  pub mark-comes : length w ≡ 1
+      → Comes (roomFor (rec .count) (length out) w) rec out (lead (rec .spaced || marked tightMarks (getD w 0 0)) ++ w) (marked openingMarks (getD w 0 0)) r out′
+      → Comes (roomFor (rec .count) (length out) w) rec out (news rec token []) (leaves (rec .spaced) (tokenOf token [])) r out′
+  mark-comes one c =
+      let s : length (spelling (numberOf token)) ≡ 0 → ⊥ = λ z. omega (arith, ap length e) in
+      let o : length (spelling (numberOf token)) ≡ 1 = rw e at one in
+      bare-comes _ _ (λ z. omega arith) (rw e (mark-tight (numberOf token) s o)) (rw e (mark-opens (numberOf token) s o)) c
+
+  pub longer-comes : (length w ≡ 0 → ⊥) → (length w ≡ 1 → ⊥) → Comes (roomFor (rec .count) (length out) w) rec out (lead (rec .spaced) ++ w) false r out′
+      → Comes (roomFor (rec .count) (length out) w) rec out (news rec token []) (leaves (rec .spaced) (tokenOf token [])) r out′
+  longer-comes s m c =
+      let z : length (spelling (numberOf token)) ≡ 0 → ⊥ = rw e at s in
+      let n : length (spelling (numberOf token)) ≡ 1 → ⊥ = rw e at m in
+      bare-comes false false s (word-tight (numberOf token) z n) (word-opens (numberOf token) z n) (rw (or-false (rec .spaced)) c)
+
+-- ---- a token that was laid was appended
+not-done-apart : (s : Stream) → Done s ≡ Not → ⊥
+not-done-apart s e = let z : _≡_ {A = ℕ} 0 1 = cc in omega arith
+
+same-left : (s t : Stream) → Done s ≡ Done t → s ≡ t
+same-left s t e = cc
+
+was : (may : Bool) (s t : Stream) (out o bytes : List ℕ) (r : Quick) → r ≡ cond may (Done t) Not → o ≡ cond may bytes out → r ≡ Done s → (may ≡ true) × ((s ≡ t) × (o ≡ bytes))
+was true s t out o bytes r e f g = (refl, (same-left s t (sym g ∙ e), f))
+was false s t out o bytes r e f g = absurd (not-done-apart s (sym g ∙ e))
+
+was-not : (may : Bool) (t : Stream) (out o bytes : List ℕ) (r : Quick) → r ≡ cond may (Done t) Not → o ≡ cond may bytes out → r ≡ Not → o ≡ out
+was-not true t out o bytes r e f g = absurd (not-done-apart t (sym e ∙ g))
+was-not false t out o bytes r e f g = f
+
+pub not-done : (may : Bool) (rec : Stream) (out bytes : List ℕ) (bit : Bool) (r : Quick) (out′ : List ℕ) → Comes may rec out bytes bit r out′ → r ≡ Not → out′ ≡ out
+unfolding quick quickOut
+not-done may rec out bytes bit r out′ c g = was-not may _ out out′ (sets out (rec .count) bytes) r (c .0) (c .1) g
+
+done : (may : Bool) (rec : Stream) (out : List ℕ) (token : ℕ) (value : List ℕ) (s : Stream) (r : Quick) (out′ : List ℕ)
+    → (may ≡ true → (rec .count + length (news rec token value) ≤ length out) × Checks rec (length out) token value Fine)
+    → Comes may rec out (news rec token value) (leaves (rec .spaced) (tokenOf token value)) r out′ → r ≡ Done s
+    → (rec .count ≤ s .count) × Appends rec out token value (Added (s .count - rec .count)) s out′
+unfolding quick quickOut room recordAfter outputAfter
+done may rec out token value s r out′ k c g =
+    let w = was may s _ out out′ (sets out (rec .count) (news rec token value)) r (c .0) (c .1) g in
+    let n = length (news rec token value) in
+    let fits = k (w .0) in
+    let counts : s .count ≡ rec .count + n = ap (λ (t : Stream). t .count) (w .1 .0) in
+    let d : s .count - rec .count ≡ n = omega arith in (
+      omega arith,
+      accepted rec out token value Fine (Added (s .count - rec .count)) s out′ (fits .1) refl
+          (record {
+            answers = rw (d, le-ltb (length out - rec .count) n (omega (arith, fits .0)));
+            leave = rw d (w .1 .0);
+            writes = rw d (w .1 .1 ∙ sets-eq (news rec token value) out (rec .count) (fits .0));
+          }),
+    )
+
+-- a space and the bytes have room
+led : (rec : Stream) (out v : List ℕ) (b : Bool) → roomFor (rec .count) (length out) v ≡ true → rec .count + length (lead b ++ v) ≤ length out
+led rec out v b e = omega (arith, store.room (rec .count) (length out) v e, length-append (lead b) v, at-most-one b)
+
+value-fits : (rec : Stream) (out : List ℕ) (token : ℕ) (value : List ℕ) → valueMay rec (length out) token value ≡ true
+    → (rec .count + length (news rec token value) ≤ length out) × Checks rec (length out) token value Fine
+unfolding valueMay kind
+value-fits rec out token value t =
+    let long = leb (length value) longest in
+    let may = roomFor (rec .count) (length out) value in
+    let a = and-left (alone token) (allPlain value && (long && may)) t in
+    let rest = and-right (alone token) (allPlain value && (long && may)) t in
+    let p = and-left (allPlain value) (long && may) rest in
+    let last = and-right (allPlain value) (long && may) rest in
+    let l = leb-true (length value) longest (and-left long may last) in
+    let m = and-right long may last in
+    let within : rec .count ≤ length out = omega (arith, store.room (rec .count) (length out) value m) in (
+      rw (← value-news token a rec value) (led rec out value (rec .spaced) m),
+      fine rec (length out) token value true within (sym (alone-known token a)) true refl (sym (alone-present token a)) refl Valid 0 l (plain-text value p) refl refl,
+    )
+
+pub value-done : (rec : Stream) (out : List ℕ) (token : ℕ) (value : List ℕ) (s : Stream) (r : Quick) (out′ : List ℕ)
+    → Comes (valueMay rec (length out) token value) rec out (news rec token value) (leaves (rec .spaced) (tokenOf token value)) r out′ → r ≡ Done s
+    → (rec .count ≤ s .count) × Appends rec out token value (Added (s .count - rec .count)) s out′
+value-done rec out token value s r out′ = done (valueMay rec (length out) token value) rec out token value s r out′ (value-fits rec out token value)
+
+word-fits : (rec : Stream) (out : List ℕ) (token : ℕ) → wordMay rec (length out) token ≡ true
+    → (rec .count + length (news rec token []) ≤ length out) × Checks rec (length out) token [] Fine
+unfolding wordMay
+word-fits rec out token t =
+    let k = numberOf token in
+    let w = spelling k in
+    let p = not-true (present token) (and-left (not (present token)) (roomFor (rec .count) (length out) w) t) in
+    let m = and-right (not (present token)) (roomFor (rec .count) (length out) w) t in
+    let some = store.some-bytes (rec .count) (length out) w m in
+    let within : rec .count ≤ length out = omega (arith, store.room (rec .count) (length out) w m) in
+    let z : length w ≡ 0 → ⊥ = λ e. omega (arith, e, some) in (
+      rw (← word-news rec token p z) (led rec out w (rec .spaced || tight k) m),
+      empty rec (length out) token [] true within (sym (spelled-known k z)) refl refl,
+    )
+
+pub word-done : (rec : Stream) (out : List ℕ) (token : ℕ) (value : List ℕ) (s : Stream) (r : Quick) (out′ : List ℕ) → length value ≡ 0
+    → Comes (wordMay rec (length out) token) rec out (news rec token []) (leaves (rec .spaced) (tokenOf token [])) r out′ → r ≡ Done s
+    → (rec .count ≤ s .count) × Appends rec out token value (Added (s .count - rec .count)) s out′
+word-done rec out token value s r out′ n c g =
+    rw (no-length value (eq-eqb (length value) 0 n))
+    (done (wordMay rec (length out) token) rec out token [] s r out′ (word-fits rec out token) c g)

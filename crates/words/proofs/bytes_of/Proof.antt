@@ -1,0 +1,17 @@
+-- `words::bytes_of` meets its contract: byte by byte. Assumes nothing.
+use borrow.Author.Needs.{needs}
+use Rattle.words.proofs.bytes_of.Statement.{statement}
+use Rattle.words.proofs.bytes_of.Tie as tie
+
+returns : tie.Need-returns
+returns c = cc
+
+pub bytes-of-spec : {M : Type 1} → statement M
+bytes-of-spec =
+    tie.close
+    (tie.spec
+    (λ c κs. search needs) (λ c κs. search needs) (λ c κs. search needs) (λ c κs. search needs)
+    (λ c κs. search needs) (λ c κs. search needs) (λ c κs. search needs) (λ c κs. search needs)
+    (λ c κs. search needs) (λ c κs. search needs) (λ c κs. search needs) (λ c κs. search needs)
+    (λ c κs. search needs) (λ c κs. search needs) (λ c κs. search needs) (λ c κs. search needs)
+    returns)
