@@ -1,5 +1,5 @@
 -- The grammar in numbers says what the grammar says: the bit of each kind in each place, the row of a LIST's elements, and the rule and the row of each kind, which are computed.
-use Prim.Native.Nat.{ℕ, zero, suc, _+_, _-_, _*_, _/_, _%_, _^_, _≤_, _<_}
+use Prim.Native.Nat.{ℕ, zero, suc, _+_, _*_, _/_, _%_, _^_, _≤_, _<_}
 use native.Mathlib.Omega.{arith}
 use native.Mathlib.Nat.{not-suc-le-zero, div-one, pow-zero, pow-succ', div-div-eq-div-mul}
 use mathlib.Core.Path.{_≡_, refl, _∙_, sym, ap}
@@ -17,7 +17,7 @@ use Rattle.grammar.specs.Shape.{Class, one, list, oneOr, small, Shape, n
 use Rattle.grammar.specs.Grammar.{table, lookup, shape}
 use Rattle.grammar.specs.Slots.{slotsOf, flagsBelow, allowed, elements}
 use Rattle.grammar.specs.Classes.{classes, classesHeld, classAt}
-use Rattle.grammar.specs.Packed.{kindsHeld, bits, lowKinds, highKinds, sameClass, numbered, elementOf, ruleOf, placesOf, each, rowOf, turn, along, allHeld}
+use Rattle.grammar.specs.Packed.{kindsHeld, bits, standsOf, sameClass, numbered, elementOf, ruleOf, placesOf, each, rowOf, turn, along, allHeld}
 
 -- ---- two places are the same
 same-class : (c d : Class) → sameClass c d ≡ true → c ≡ d
@@ -97,25 +97,31 @@ module _ (f : ℕ → Bool) where
       rw (pow-succ' 2 s, ← div-div-eq-div-mul (bits f k (suc n)) 2 (2 ^ s), later k n)
       (nth-bit (k + 1) n s j (omega arith) (omega arith))
 
-pub low-bit : (n k m : ℕ) → m ≡ lowKinds n → k < 64 → eqb (m / 2 ^ k % 2) 1 ≡ allowed (classAt n) k
-unfolding lowKinds
-low-bit n k m e h = rw (e, nth-bit (allowed (classAt n)) 0 64 k k h (omega arith)) (bit-is (allowed (classAt n) k))
-
-pub high-bit : (n k m : ℕ) → m ≡ highKinds n → 64 ≤ k → k < 128 → eqb (m / 2 ^ (k - 64) % 2) 1 ≡ allowed (classAt n) k
-unfolding highKinds
-high-bit n k m e l h = rw (e, nth-bit (allowed (classAt n)) 64 64 (k - 64) k (omega arith) (omega arith)) (bit-is (allowed (classAt n) k))
-
-pub no-bit : (n k : ℕ) → n < classesHeld → 128 ≤ k → false ≡ allowed (classAt n) k
-no-bit n k h l = sym (not-allowed (classAt n) k (at (λ m. lateless (classAt m)) classesHeld lateless-all n h) (omega arith))
+pub stands-bit : (n k m : ℕ) → m ≡ standsOf k → n < 64 → eqb (m / 2 ^ n % 2) 1 ≡ allowed (classAt n) k
+unfolding standsOf
+stands-bit n k m e h =
+    rw (e, nth-bit (λ j. allowed (classAt j) k) 0 64 n n h (omega arith)) (bit-is (allowed (classAt n) k))
 
 -- ---- past the last place nothing may stand, and no element has a place; past the last kind there are no flags and no slots
 past-places : (n : ℕ) → classesHeld ≤ n → classAt n ≡ one []
 unfolding classAt classes
 past-places n h = List·getD-eq-default classes (one []) h
 
-pub no-place : (n k : ℕ) → classesHeld ≤ n → false ≡ allowed (classAt n) k
+no-place : (n k : ℕ) → classesHeld ≤ n → allowed (classAt n) k ≡ false
 unfolding allowed
 no-place n k h = rw (past-places n h)
+
+no-bits : (f : ℕ → Bool) (k n : ℕ) → ((j : ℕ) → f j ≡ false) → bits f k n ≡ 0
+no-bits f k zero h = refl
+no-bits f k (suc n) h = rw (h k, no-bits f (k + 1) n h)
+
+pub no-kind : (k : ℕ) → kindsHeld ≤ k → 0 ≡ standsOf k
+unfolding standsOf
+no-kind k l = sym (no-bits (λ n. allowed (classAt n) k) 0 64 (λ n. by n (ltb n classesHeld) refl))
+  where
+    by : (n : ℕ) (b : Bool) → ltb n classesHeld ≡ b → allowed (classAt n) k ≡ false
+    by n true e = not-allowed (classAt n) k (at (λ m. lateless (classAt m)) classesHeld lateless-all n (ltb-true n classesHeld e)) l
+    by n false e = no-place n k (ltb-false n classesHeld e)
 
 nowhere : numbered (one []) ≡ 0
 unfolding numbered sameClass classes
@@ -224,7 +230,8 @@ abbrev rowRight : ℕ → List Class → Bool
 rowRight p cs = sameAll (along p (length cs)) cs && allHeld p (length cs)
 
 abbrev kindRight : ℕ → Bool
-kindRight k = ltb (flagsBelow (shape k)) 256 && rowRight (placesOf k) (slotsOf (shape k))
+kindRight k =
+    (ltb 0 (flagsBelow (shape k)) && ltb (flagsBelow (shape k)) 256) && rowRight (placesOf k) (slotsOf (shape k))
 
 kinds-right : below kindRight kindsHeld ≡ true
 unfolding sameAll placesOf turn numbered sameClass classAt classes slotsOf flagsBelow shape
@@ -234,8 +241,14 @@ module _ (k : ℕ) (h : k < kindsHeld) where
   right : kindRight k ≡ true
   right = at kindRight kindsHeld kinds-right k h
 
+  flags-right : ltb 0 (flagsBelow (shape k)) && ltb (flagsBelow (shape k)) 256 ≡ true
+  flags-right = and-left (ltb 0 (flagsBelow (shape k)) && ltb (flagsBelow (shape k)) 256) _ right
+
+  pub no-flags-fit : ltb 0 (flagsBelow (shape k)) ≡ true
+  no-flags-fit = and-left (ltb 0 (flagsBelow (shape k))) (ltb (flagsBelow (shape k)) 256) flags-right
+
   flags-few : flagsBelow (shape k) < 256
-  flags-few = ltb-true (flagsBelow (shape k)) 256 (and-left (ltb (flagsBelow (shape k)) 256) _ right)
+  flags-few = ltb-true (flagsBelow (shape k)) 256 (and-right (ltb 0 (flagsBelow (shape k))) (ltb (flagsBelow (shape k)) 256) flags-right)
 
   pub rule-flags : ruleOf k % 256 ≡ flagsBelow (shape k)
   unfolding ruleOf
@@ -246,7 +259,7 @@ module _ (k : ℕ) (h : k < kindsHeld) where
   rule-slots = let l = flags-few in omega arith
 
   row-right : rowRight (placesOf k) (slotsOf (shape k)) ≡ true
-  row-right = and-right (ltb (flagsBelow (shape k)) 256) _ right
+  row-right = and-right (ltb 0 (flagsBelow (shape k)) && ltb (flagsBelow (shape k)) 256) _ right
 
   module _ (no-list : k ≡ LIST → ⊥) (n : ℕ) where
     pub slots-along : along (rowOf n k) (length (slotsOf (shape k))) ≡ slotsOf (shape k)

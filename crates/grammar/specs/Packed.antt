@@ -16,17 +16,14 @@ use Rattle.grammar.specs.Classes.{classes, classesHeld, classAt}
 abbrev pub kindsHeld : ℕ
 kindsHeld = 121
 
--- ---- a place: a bit for each kind that may stand there
--- the n kinds from k on that pass a test, a bit for each, the first the lowest
+-- ---- a kind: a bit for each place where it may stand
+-- the n places from k on that pass a test, a bit for each, the first the lowest
 abbrev pub bits : (ℕ → Bool) → ℕ → ℕ → ℕ
 bits f k zero = 0
 bits f k (suc n) = cond (f k) 1 0 + 2 * bits f (k + 1) n
 
-unfoldable pub lowKinds : ℕ → ℕ
-lowKinds n = bits (allowed (classAt n)) 0 64
-
-unfoldable pub highKinds : ℕ → ℕ
-highKinds n = bits (allowed (classAt n)) 64 64
+unfoldable pub standsOf : ℕ → ℕ
+standsOf k = bits (λ n. allowed (classAt n) k) 0 64
 
 -- ---- the number of a place
 unfoldable pub sameClass : Class → Class → Bool

@@ -6,9 +6,8 @@ pub mod kind;
 
 ghost use mathlib.Core.Path.{_≡_};
 ghost use Prim.Native.Nat.{_%_, _<_};
-ghost use Rattle.grammar.specs.Slots.{allowed as allowed'};
-ghost use Rattle.grammar.specs.Classes.{classesHeld, classAt};
-ghost use Rattle.grammar.specs.Packed.{kindsHeld, lowKinds, highKinds, elementOf, ruleOf, placesOf, rowOf, turn};
+ghost use Rattle.grammar.specs.Classes.{classesHeld};
+ghost use Rattle.grammar.specs.Packed.{kindsHeld, standsOf, elementOf, ruleOf, placesOf, rowOf, turn};
 
 // The places that the check names itself: the root, and a NUMBER up to 255.
 pub const ROOT: u8 = 1;
@@ -18,18 +17,15 @@ pub const SMALL: u8 = 4;
 // In a kind's rule, the weight of the number of its slots; below it stands the number that its flags are below.
 pub const SLOTS: u16 = 0x100;
 
-// A place's kinds are in two numbers, with a bit for each kind: those below HIGH, and those from there to KINDS.
-const HIGH: u16 = 64;
-
-const KINDS: u16 = 128;
-
 // How many places there are, and the first number past all kinds.
 const PLACES: u8 = 49;
 
 const KINDS_HELD: u16 = 121;
 
-// The place where nothing may stand; the rule of what is no kind: no flags and no slots; and its row.
+// The place where nothing may stand; the places where what is no kind may stand; its rule: no flags and no slots; and its row.
 const NOWHERE: u8 = 0;
+
+const NONE_OF_THEM: u64 = 0;
 
 const BARE: u16 = 1;
 
@@ -44,138 +40,145 @@ const TOP: u64 = 0x100_0000_0000_0000;
 // A one in each byte.
 const EACH: u64 = 0x101_0101_0101_0101;
 
-// The kinds below HIGH that may stand in a place, a bit for each.
-fn low_kinds(place: u8) -> u64
-    requires { ⌜ place < classesHeld ⌝ }
-    ensures { λ r. ⌜ r ≡ lowKinds place ⌝ }
+// The places where a kind that there is may stand, a bit for each.
+fn stands_held(kind: u16) -> u64
+    requires { ⌜ kind < kindsHeld ⌝ }
+    ensures { λ r. ⌜ r ≡ standsOf kind ⌝ }
 {
-    match place {
-        0 => 0x0,
-        1 => 0xffffffff0000040a,
-        2 => 0xffffffff00000008,
-        3 => 0x4,
-        4 => 0x20,
-        5 => 0xffffffff00000008,
-        6 => 0x8,
-        7 => 0x8,
-        8 => 0x9,
-        9 => 0x2,
-        10 => 0x2,
-        11 => 0x8,
-        12 => 0x8,
-        13 => 0x8,
-        14 => 0x9,
-        15 => 0x9,
-        16 => 0x9,
-        17 => 0x10,
-        18 => 0x8,
-        19 => 0x2,
-        20 => 0x8,
-        21 => 0x21,
-        22 => 0x8,
-        23 => 0x8,
-        24 => 0x2,
-        25 => 0x8,
-        26 => 0x2,
-        27 => 0x8,
-        28 => 0x2,
-        29 => 0x8,
-        30 => 0x9,
-        31 => 0x8,
-        32 => 0x8,
-        33 => 0x2,
-        34 => 0x2,
-        35 => 0x8,
-        36 => 0x11,
-        37 => 0x9,
-        38 => 0x8,
-        39 => 0x2,
-        40 => 0x8,
-        41 => 0x2,
-        42 => 0x8,
-        43 => 0x2,
-        44 => 0x8,
-        45 => 0x2,
-        46 => 0x8,
-        47 => 0x8,
-        48 => 0x8,
-        _ => 0xffffffffffffffff,
-    }
-}
-
-// The kinds from HIGH on that may stand in a place, a bit for each.
-fn high_kinds(place: u8) -> u64
-    requires { ⌜ place < classesHeld ⌝ }
-    ensures { λ r. ⌜ r ≡ highKinds place ⌝ }
-{
-    match place {
-        0 => 0x0,
-        1 => 0x17fffffffff0001,
-        2 => 0x17fffffffff0001,
-        3 => 0x0,
-        4 => 0x0,
-        5 => 0x1,
+    match kind {
+        0 => 0x304021c100,
+        1 => 0x2a8615080602,
+        2 => 0x8,
+        3 => 0x1d569ead5f9e6,
+        4 => 0x1000020000,
+        5 => 0x200010,
         6 => 0x0,
-        7 => 0x3e0000000,
+        7 => 0x0,
         8 => 0x0,
         9 => 0x0,
-        10 => 0x0,
-        11 => 0x40000000000000,
-        12 => 0xc00000000,
-        13 => 0x10000,
-        14 => 0x400000000000,
-        15 => 0x80000000000000,
-        16 => 0x200000,
+        10 => 0x2,
+        11 => 0x0,
+        12 => 0x0,
+        13 => 0x0,
+        14 => 0x0,
+        15 => 0x0,
+        16 => 0x0,
         17 => 0x0,
-        18 => 0x3800000000000,
+        18 => 0x0,
         19 => 0x0,
-        20 => 0x20000000000000,
+        20 => 0x0,
         21 => 0x0,
-        22 => 0x20000,
-        23 => 0x180000,
+        22 => 0x0,
+        23 => 0x0,
         24 => 0x0,
-        25 => 0x40000,
+        25 => 0x0,
         26 => 0x0,
-        27 => 0x7800000,
+        27 => 0x0,
         28 => 0x0,
-        29 => 0x400000,
-        30 => 0x18000000,
-        31 => 0x200000,
-        32 => 0x1000000000,
-        33 => 0x0,
-        34 => 0x0,
-        35 => 0x100000000000000,
-        36 => 0x0,
-        37 => 0x80000000000,
-        38 => 0x20000000000,
-        39 => 0x0,
-        40 => 0x40000000000,
-        41 => 0x0,
-        42 => 0x4000000000000,
-        43 => 0x0,
-        44 => 0x8000000000000,
-        45 => 0x0,
-        46 => 0x10000000000000,
-        47 => 0x80000000000,
-        48 => 0x1e000000000,
+        29 => 0x0,
+        30 => 0x0,
+        31 => 0x0,
+        32 => 0x26,
+        33 => 0x26,
+        34 => 0x26,
+        35 => 0x26,
+        36 => 0x26,
+        37 => 0x26,
+        38 => 0x26,
+        39 => 0x26,
+        40 => 0x26,
+        41 => 0x26,
+        42 => 0x26,
+        43 => 0x26,
+        44 => 0x26,
+        45 => 0x26,
+        46 => 0x26,
+        47 => 0x26,
+        48 => 0x26,
+        49 => 0x26,
+        50 => 0x26,
+        51 => 0x26,
+        52 => 0x26,
+        53 => 0x26,
+        54 => 0x26,
+        55 => 0x26,
+        56 => 0x26,
+        57 => 0x26,
+        58 => 0x26,
+        59 => 0x26,
+        60 => 0x26,
+        61 => 0x26,
+        62 => 0x26,
+        63 => 0x26,
+        64 => 0x26,
+        65 => 0x0,
+        66 => 0x0,
+        67 => 0x0,
+        68 => 0x0,
+        69 => 0x0,
+        70 => 0x0,
+        71 => 0x0,
+        72 => 0x0,
+        73 => 0x0,
+        74 => 0x0,
+        75 => 0x0,
+        76 => 0x0,
+        77 => 0x0,
+        78 => 0x0,
+        79 => 0x0,
+        80 => 0x2006,
+        81 => 0x400006,
+        82 => 0x2000006,
+        83 => 0x800006,
+        84 => 0x800006,
+        85 => 0x80010006,
+        86 => 0x20000006,
+        87 => 0x8000006,
+        88 => 0x8000006,
+        89 => 0x8000006,
+        90 => 0x8000006,
+        91 => 0x40000006,
+        92 => 0x40000006,
+        93 => 0x86,
+        94 => 0x86,
+        95 => 0x86,
+        96 => 0x86,
+        97 => 0x86,
+        98 => 0x1006,
+        99 => 0x1006,
+        100 => 0x100000006,
+        101 => 0x1000000000006,
+        102 => 0x1000000000006,
+        103 => 0x1000000000006,
+        104 => 0x1000000000006,
+        105 => 0x4000000006,
+        106 => 0x10000000006,
+        107 => 0x802000000006,
+        108 => 0x6,
+        109 => 0x6,
+        110 => 0x4006,
+        111 => 0x40006,
+        112 => 0x40006,
+        113 => 0x40006,
+        114 => 0x40000000006,
+        115 => 0x100000000006,
+        116 => 0x400000000006,
+        117 => 0x100006,
+        118 => 0x806,
+        119 => 0x8000,
+        120 => 0x800000006,
         _ => 0xffffffffffffffff,
     }
 }
 
-// Whether a record of a kind may stand in a place.
-pub fn allowed(place: u8, kind: u16) -> bool
-    ensures { λ r. ⌜ r ≡ allowed' (classAt place) kind ⌝ }
+// The places where a kind may stand, a bit for each.
+pub fn stands(kind: u16) -> u64
+    ensures { λ r. ⌜ r ≡ standsOf kind ⌝ }
 {
-    if PLACES <= place {
-        return false;
+    if KINDS_HELD <= kind {
+        return NONE_OF_THEM;
     }
-    if kind < HIGH {
-        return (low_kinds(place) >> kind as u64) % 2 == 1;
-    }
-    if KINDS <= kind {
-        return false;
-    }
-    (high_kinds(place) >> (kind - HIGH) as u64) % 2 == 1
+    stands_held(kind)
 }
 
 // The place of each element, where a LIST stands in a place that there is.

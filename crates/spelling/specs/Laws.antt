@@ -51,6 +51,12 @@ ranged-known k =
     (λ h. beq (ranged k) (known k) (at (λ n. Bool·beq (ranged n) (known n)) count ranged-below k h))
     (ranged-past k)
 
+pub early-known : (k : ℕ) → k ≤ 168 → true ≡ known k
+early-known k h = rw (le-leb k 168 h) at (ranged-known k)
+
+pub late-known : (k : ℕ) → 168 < k → ((leb 185 k && leb k 193) || eqb k 255) ≡ known k
+late-known k h = rw (lt-leb k 168 h) at (ranged-known k)
+
 -- the lent pool spells every number as the rows do
 spells-below : below (λ k. same (spellingIn bytes k) (spelling k)) count ≡ true
 unfolding spellingIn rowOf within bytes spelling row rows

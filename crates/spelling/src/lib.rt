@@ -247,11 +247,13 @@ pub fn of(pool: &[u8], number: u16) -> &[u8]
     &pool[start..end]
 }
 
-// Whether a token has the number.
+// Whether a token has the number. Most that are asked for are of the first row.
 pub fn known(number: u16) -> bool
     ensures { λ r. ⌜ r ≡ known' number ⌝ }
 {
-    (number <= token::TK_WITHIN)
-        | ((token::TK_ILLEGAL <= number) & (number <= token::TK_ARRAY_OVERLAP))
+    if number <= token::TK_WITHIN {
+        return true;
+    }
+    ((token::TK_ILLEGAL <= number) & (number <= token::TK_ARRAY_OVERLAP))
         | (number == token::TK_NONE)
 }

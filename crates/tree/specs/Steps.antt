@@ -8,7 +8,7 @@ use lib.Dec.{eqb, ltb}
 use lib.ListN.{length, replicate}
 use borrow.Author.Tests.{eqb-true, eqb-false, eq-eqb, ne-eqb, ltb-true}
 use Rattle.laws.specs.Tests.{and-left, and-right}
-use Rattle.record.specs.Record.{count}
+use Rattle.record.specs.Record.{recordAt, count}
 use Rattle.record.specs.declared.Record.{Record}
 use Rattle.grammar.specs.Kind.{LIST, RUN, TOKEN}
 use Rattle.grammar.specs.Shape.{Class}
@@ -19,7 +19,7 @@ use Rattle.grammar.specs.Packed.{kindsHeld, rowOf, turn, along, allHeld}
 use Rattle.grammar.specs.Laws.{allowed-held, list-along, list-held, slots-along, slots-held}
 use Rattle.tree.specs.Check.{Place, place, holds, fits, scan}
 use Rattle.tree.specs.Laws.{token-holds}
-use Rattle.tree.specs.Walk.{refused, Walks, resumed-next, resumed-refused}
+use Rattle.tree.specs.Walk.{refused, answerOf, resumed, Walks, Meets, resumed-next, resumed-refused, fine-fits, fine-left, down}
 
 -- ---- the children of a record that fits
 module _ (c : Class) (r : Record) (fe : fits c r ≡ true) where
@@ -84,50 +84,81 @@ token-childless r fe =
     only true h = refl
     only false h = h
 
--- ---- along a row of places: from index i with the places ps to index j with qs left
+-- ---- along a row of places: from index i with the places ps to the number j with qs left
 pub record Along (t x : List ℕ) (i : ℕ) (ps : List Place) (j : ℕ) (qs : List Place) : Type 0 where
-  pub ended : j ≤ count t
-  pub is : (rest : List Place) → scan t x (count t - j) j (qs ++ rest) ≡ scan t x (count t - i) i (ps ++ rest)
+  pub onward : i ≤ j
+  pub ended : j < refused → j ≤ count t
+  pub is : (rest : List Place) → resumed t x j (qs ++ rest) ≡ scan t x (count t - i) i (ps ++ rest)
 
-pub along-start : (t x : List ℕ) (i : ℕ) (ps : List Place) → i ≤ count t → Along t x i ps i ps
-along-start t x i ps h = record { ended = h; is = λ rest. refl }
-
-module _ (t x : List ℕ) (i : ℕ) (ps : List Place) (j : ℕ) where
-  pub along-end : count t < refused → Along t x i ps j [] → Walks t x i ps j
-  along-end h a =
-      let e = a .ended in
-      record { is = λ rest. sym (resumed-next t x j rest (omega arith) ∙ a .is rest); ended = λ l. e }
-
-  module _ (p : Place) (qs : List Place) (v : ℕ) (a : Along t x i ps j (p ∷ qs)) (w : Walks t x j (p ∷ []) v) where
-    along-next : v < refused → Along t x i ps v qs
-    along-next l =
-        record {
-          ended = w .ended l;
-          is = λ rest. sym (w .is (qs ++ rest) ∙ resumed-next t x v (qs ++ rest) l) ∙ a .is rest;
-        }
-
-    along-stops : refused ≤ v → Walks t x i ps v
-    along-stops l =
-        record {
-          is = λ rest. sym (a .is rest) ∙ w .is (qs ++ rest) ∙ resumed-refused t x v (qs ++ rest) l ∙ sym (resumed-refused t x v rest l);
-          ended = λ g. absurd (omega arith);
-        }
+pub along-start : (t x : List ℕ) (i : ℕ) (ps : List Place) → count t < refused → i ≤ count t → Along t x i ps i ps
+along-start t x i ps s h = record { onward = omega arith; ended = λ _. h; is = λ rest. resumed-next t x i (ps ++ rest) (omega arith) }
 
 -- no places are filled by no records
 pub nothing-walked : (t x : List ℕ) (i : ℕ) → count t < refused → i ≤ count t → Walks t x i [] i
-nothing-walked t x i h l = along-end t x i [] i h (along-start t x i [] l)
+nothing-walked t x i s h = record { onward = omega arith; ended = λ _. h; is = λ rest. sym (resumed-next t x i rest (omega arith)) }
 
--- ---- along what may stand in the places: cs is left
+-- along what may stand in the places: cs is left
 module _ (t x : List ℕ) (i : ℕ) (ps : List Place) (j d : ℕ) (cs : List Class) (a : Along t x i ps j (map (place d) cs)) where
-  pub row-end : count t < refused → cs ≡ [] → Walks t x i ps j
-  row-end h e = along-end t x i ps j h (rw e at a)
+  pub row-end : cs ≡ [] → Walks t x i ps j
+  row-end e = record { onward = a .onward; ended = a .ended; is = λ rest. sym (rw e at (a .is rest)) }
 
-  module _ (c : Class) (ds : List Class) (split : cs ≡ c ∷ ds) (v : ℕ) (w : Walks t x j (place d c ∷ []) v) where
-    pub row-next : v < refused → Along t x i ps v (map (place d) ds)
-    row-next h = along-next t x i ps j (place d c) (map (place d) ds) v (rw split at a) w h
+  module _ (c : Class) (ds : List Class) (split : cs ≡ c ∷ ds) where
+    from-here : (rest : List Place) → resumed t x j (place d c ∷ (map (place d) ds ++ rest)) ≡ scan t x (count t - i) i (ps ++ rest)
+    from-here rest = rw split at (a .is rest)
 
-    pub row-stops : refused ≤ v → Walks t x i ps v
-    row-stops h = along-stops t x i ps j (place d c) (map (place d) ds) v (rw split at a) w h
+    -- the next place is where the walk stops
+    module _ (v : ℕ) (stop : refused ≤ v) (back : i ≤ v) where
+      stops : ((qs : List Place) → resumed t x j (place d c ∷ qs) ≡ answerOf v) → Walks t x i ps v
+      stops w =
+          record {
+            onward = back;
+            ended = λ g. absurd (omega arith);
+            is = λ rest. sym (resumed-refused t x v rest stop ∙ sym (w (map (place d) ds ++ rest)) ∙ from-here rest);
+          }
+
+    -- or it is filled, with all below it
+    module _ (l : j < refused) (v : ℕ) (w : Walks t x j (place d c ∷ []) v) where
+      pub row-next : Along t x i ps v (map (place d) ds)
+      row-next =
+          record {
+            onward = omega (arith, a .onward, w .onward);
+            ended = w .ended;
+            is = λ rest.
+                sym (w .is (map (place d) ds ++ rest))
+                ∙ sym (resumed-next t x j (place d c ∷ (map (place d) ds ++ rest)) l)
+                ∙ from-here rest;
+          }
+
+      pub row-stops : refused ≤ v → Walks t x i ps v
+      row-stops h =
+          stops v h (omega (arith, a .onward, w .onward))
+          (λ qs. resumed-next t x j (place d c ∷ qs) l ∙ w .is qs ∙ resumed-refused t x v qs h)
+
+-- ---- a record in its place with no fault
+module _ (t x : List ℕ) (j left : ℕ) (c : Class) (r : Record) (v : ℕ) (m : Meets t x j left c r v) (z : v ≡ 0) where
+  pub there : j < count t
+  there = m .passes z .0
+
+  pub met-fits : fits c r ≡ true
+  met-fits = fine-fits x r left c 0 (sym (m .passes z .1)) refl
+
+  pub met-left : 1 ≤ left
+  met-left = fine-left x r left c 0 (sym (m .passes z .1)) refl
+
+-- in the next place of a row a record is refused, or it and all below it fill the place
+module _ (t x : List ℕ) (i : ℕ) (ps : List Place) (j left : ℕ) (cs : List Class) (a : Along t x i ps j (map (place (65 - left)) cs)) (c : Class) (ds : List Class) (split : cs ≡ c ∷ ds)
+    (r : Record) (v : ℕ) (m : Meets t x j left c r v) where
+  pub row-refused : i < refused → (v ≡ 0 → ⊥) → Walks t x i ps v
+  row-refused l z =
+      let refuses = m .refuses z in
+      stops t x i ps j (65 - left) cs a c ds split v (refuses .0) (omega (arith, refuses .0)) (refuses .1)
+
+  pub row-filled : v ≡ 0 → count t < refused → left ≤ 64 → r ≡ recordAt t j → (w : ℕ) → Walks t x (j + 1) (map (place (65 - (left - 1))) (holds c r)) w
+      → Along t x i ps w (map (place (65 - left)) ds)
+  row-filled z s l re w b =
+      let h = there t x j left c r v m z in
+      row-next t x i ps j (65 - left) cs a c ds split (omega arith) w
+      (down t x j left c r h re 0 (sym (m .passes z .1)) refl l w b)
 
 -- the first of n that are left, and the others; and that none is left
 module _ (p n : ℕ) where

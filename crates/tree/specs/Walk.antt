@@ -1,18 +1,21 @@
--- What a walk of the tree comes to, against the scan by index: the contract of the functions that call each other on child records.
+-- What a walk of the tree comes to, against the scan by index, and what is asked of one record on the way.
 use Prim.Native.Nat.{ℕ, suc, _+_, _-_, _*_, _/_, _%_, _≤_, _<_}
 use native.Mathlib.Omega.{arith}
 use mathlib.Core.Path.{_≡_, refl, _∙_, ap, sym}
 use mathlib.Core.List.{List, [], _∷_, _++_, map}
-use mathlib.Core.Bool.{Bool, true, false, not, cond}
-use lib.Dec.{eqb, ltb}
-use borrow.Author.Tests.{eqb-true, eqb-false, lt-ltb, le-ltb, ltb-false, not-false}
+use mathlib.Core.Bool.{Bool, true, false, not, cond, _&&_}
+use lib.Dec.{eqb, ltb, leb}
+use lib.ListN.{length}
+use borrow.Author.Tests.{eqb-true, eqb-false, lt-ltb, le-ltb, ltb-true, ltb-false, not-false}
 use Rattle.laws.specs.First.{first}
+use Rattle.utf8.specs.Rfc3629.{boundary}
 use Rattle.record.specs.Record.{recordAt, count, markOk}
 use Rattle.record.specs.declared.Record.{Record}
 use Rattle.grammar.specs.Shape.{Class}
+use Rattle.grammar.specs.Slots.{allowed}
 use Rattle.tree.specs.declared.Answer.{Answer}
 use Rattle.tree.specs.declared.Answer.the-variants.{Mark, Misfit, Outside, Deep, Ends}
-use Rattle.tree.specs.Check.{Place, place, holds, fits, inside, deepest, faults, scan}
+use Rattle.tree.specs.Check.{Place, place, holds, flagsFit, fieldsFit, rangeFits, fits, inside, deepest, faults, scan}
 
 -- a walk comes to a number: the index behind it or, from here on, a refusal, its number times this and its index
 abbrev pub refused : ℕ
@@ -32,14 +35,42 @@ answerOf w = refusalAt (w / refused) (w % refused)
 unfoldable pub resumed : List ℕ → List ℕ → ℕ → List Place → Answer
 resumed t x w ps = cond (ltb w refused) (scan t x (count t - w) w ps) (answerOf w)
 
--- w is what the records from index i on come to that must fill the places ps, whatever places follow; an index behind them is no further than the tree's end
+-- w is what the records from index i on come to that must fill the places ps, whatever places follow; an index behind them is no
+-- further than the tree's end, and no walk goes back
 pub record Walks (t x : List ℕ) (i : ℕ) (ps : List Place) (w : ℕ) : Type 0 where
+  pub onward : i ≤ w
   pub is : (rest : List Place) → scan t x (count t - i) i (ps ++ rest) ≡ resumed t x w rest
   pub ended : w < refused → w ≤ count t
+
+-- ---- one record: its tests in the order in which they are made
+-- bytes 8-15 are zero
+unfoldable pub zeros : Record → Bool
+zeros r = eqb (r .start) 0 && eqb (r .len) 0
+
+-- what of `fits` asks for no more than bytes 2-7
+unfoldable pub kindFits : Class → Record → Bool
+kindFits c r = allowed c (r .kind) && (eqb (r .kids) (length (holds c r)) && flagsFit r)
+
+-- what `inside` asks of a text part
+unfoldable pub partInside : List ℕ → Record → Bool
+partInside x r = leb (r .start + r .len) (length x) && (boundary x (r .start) && boundary x (r .start + r .len))
+
+-- the number of the fault in bytes 8-15, or 0
+unfoldable pub usedFault : List ℕ → Class → Record → ℕ
+usedFault x c r = first ((not (fieldsFit r && rangeFits c r), 4) ∷ (not (inside x r), 5) ∷ []) 0
 
 -- the number of a record's first fault, with left records of depth to go, where fit tells whether it fits its place; or 0
 unfoldable pub faultOf : List ℕ → Record → ℕ → Bool → ℕ
 faultOf x r left fit = first ((not (markOk r), 3) ∷ (not fit, 4) ∷ (not (inside x r), 5) ∷ (eqb left 0, 6) ∷ []) 0
+
+-- where there is no record at i; an index that is a refusal stays one
+unfoldable pub pastAt : ℕ → ℕ
+pastAt i = cond (ltb i refused) (refuse 7 i) i
+
+-- w is the refusal that the record r at index i meets in its place, whatever places follow; or it is 0, and r has no fault
+pub record Meets (t x : List ℕ) (i left : ℕ) (c : Class) (r : Record) (w : ℕ) : Type 0 where
+  pub refuses : (w ≡ 0 → ⊥) → (refused ≤ w) × ((ps : List Place) → resumed t x i (place (65 - left) c ∷ ps) ≡ answerOf w)
+  pub passes : w ≡ 0 → (i < count t) × (faultOf x r left (fits c r) ≡ 0)
 
 -- ---- a number of the walk taken apart
 module _ (n i : ℕ) (h : i < refused) where
@@ -100,12 +131,12 @@ pub fault-small : (x : List ℕ) (r : Record) (left : ℕ) (fit : Bool) (f : ℕ
 unfolding faultOf
 fault-small x r left fit f e = rw e (few (not (markOk r)) (not fit) (not (inside x r)) (eqb left 0))
 
-module _ (x : List ℕ) (r : Record) (left : ℕ) (c : Class) (fit : Bool) (fe : fit ≡ fits c r) (f : ℕ) (found : f ≡ faultOf x r left fit) where
+module _ (x : List ℕ) (r : Record) (left : ℕ) (c : Class) (f : ℕ) (found : f ≡ faultOf x r left (fits c r)) where
   found-is : f ≡ numbers (not (markOk r)) (not (fits c r)) (not (inside x r)) (ltb deepest (65 - left))
   unfolding faultOf
-  found-is = found ∙ rw (fe, depthless left)
+  found-is = found ∙ rw (depthless left)
 
-  pub first-fault : (i : ℕ) (other : Answer) → (f ≡ 0 → ⊥) → first (faults x r i (place (65 - left) c)) other ≡ refusalAt f i
+  first-fault : (i : ℕ) (other : Answer) → (f ≡ 0 → ⊥) → first (faults x r i (place (65 - left) c)) other ≡ refusalAt f i
   unfolding faults
   first-fault i other h =
       some (not (markOk r)) (not (fits c r)) (not (inside x r)) (ltb deepest (65 - left)) i other (λ e. h (found-is ∙ e))
@@ -121,18 +152,21 @@ module _ (x : List ℕ) (r : Record) (left : ℕ) (c : Class) (fit : Bool) (fe :
     pub fine-left : 1 ≤ left
     fine-left = omega (arith, ltb-false deepest (65 - left) (passed .1 .0))
 
-    pub no-fault : (i : ℕ) (other : Answer) → first (faults x r i (place (65 - left) c)) other ≡ other
+    no-fault : (i : ℕ) (other : Answer) → first (faults x r i (place (65 - left) c)) other ≡ other
     unfolding faults
     no-fault i other = passed .1 .1 i other
 
 -- ---- the ways through a walk of one record
 module _ (t x : List ℕ) (i : ℕ) (p : Place) where
-  pub past : count t ≤ i → i < refused → Walks t x i (p ∷ []) (refuse 7 i)
+  nothing-there : count t ≤ i → i < refused → (ps : List Place) → scan t x (count t - i) i (p ∷ ps) ≡ answerOf (refuse 7 i)
   unfolding scan
+  nothing-there h l ps = let e : count t - i ≡ 0 = omega arith in sym (refused-answer 7 i l ∙ rw e)
+
+  pub past : count t ≤ i → i < refused → Walks t x i (p ∷ []) (refuse 7 i)
   past h l =
-      let e : count t - i ≡ 0 = omega arith in
       record {
-        is = λ rest. sym (resumed-refused t x (refuse 7 i) rest (omega arith) ∙ refused-answer 7 i l ∙ rw e);
+        onward = omega arith;
+        is = λ rest. nothing-there h l rest ∙ sym (resumed-refused t x (refuse 7 i) rest (omega arith));
         ended = λ g. absurd (omega arith);
       }
 
@@ -142,25 +176,68 @@ module _ (t x : List ℕ) (i : ℕ) (p : Place) where
   unfolding scan
   one-step there rest = let e : count t - i ≡ suc (count t - (i + 1)) = omega arith in rw e
 
-module _ (t x : List ℕ) (i left : ℕ) (c : Class) (r : Record) (there : i < count t) (re : r ≡ recordAt t i) (fit : Bool) (fe : fit ≡ fits c r) (f : ℕ) (found : f ≡ faultOf x r left fit) where
-  step : (rest : List Place)
-      → scan t x (count t - i) i (place (65 - left) c ∷ rest)
-      ≡ first (faults x r i (place (65 - left) c)) (scan t x (count t - (i + 1)) (i + 1) (map (place (65 - left + 1)) (holds c r) ++ rest))
-  step rest = rw re (one-step t x i (place (65 - left) c) there rest)
+module _ (t x : List ℕ) (i left : ℕ) (c : Class) (r : Record) where
+  pub meets-none-there : count t < refused → count t ≤ i → (w : ℕ) → w ≡ pastAt i → Meets t x i left c r w
+  unfolding pastAt
+  meets-none-there h l w e = by (ltb i refused) refl
+    where
+      by : (b : Bool) → ltb i refused ≡ b → Meets t x i left c r w
+      by true q =
+          let near = ltb-true i refused q in
+          let is : w ≡ refuse 7 i = e ∙ rw q in
+          record {
+            refuses = λ z. (omega arith, λ ps. resumed-next t x i _ near ∙ nothing-there t x i _ l near ps ∙ ap answerOf (sym is));
+            passes = λ z. absurd (omega arith);
+          }
+      by false q =
+          let far = ltb-false i refused q in
+          let is : w ≡ i = e ∙ rw q in
+          record {
+            refuses = λ z. (omega arith, λ ps. resumed-refused t x i _ far ∙ ap answerOf (sym is));
+            passes = λ z. absurd (omega arith);
+          }
 
-  pub faulted : (f ≡ 0 → ⊥) → i < refused → Walks t x i (place (65 - left) c ∷ []) (refuse f i)
-  faulted h l =
-      let g : 1 ≤ f = omega arith in
-      record {
-        is = λ rest. step rest ∙ first-fault x r left c fit fe f found i _ h ∙ sym (resumed-refused t x (refuse f i) rest (omega arith) ∙ refused-answer f i l);
-        ended = λ k. absurd (omega arith);
-      }
+  module _ (there : i < count t) (re : r ≡ recordAt t i) (f : ℕ) (found : f ≡ faultOf x r left (fits c r)) where
+    step : (rest : List Place)
+        → scan t x (count t - i) i (place (65 - left) c ∷ rest)
+        ≡ first (faults x r i (place (65 - left) c)) (scan t x (count t - (i + 1)) (i + 1) (map (place (65 - left + 1)) (holds c r) ++ rest))
+    step rest = rw re (one-step t x i (place (65 - left) c) there rest)
 
-  pub down : f ≡ 0 → left ≤ 64 → (w : ℕ) → Walks t x (i + 1) (map (place (65 - (left - 1))) (holds c r)) w → Walks t x i (place (65 - left) c ∷ []) w
-  down z l w b =
-      let one-left = fine-left x r left c fit fe f found z in
-      let d : 65 - left + 1 ≡ 65 - (left - 1) = omega arith in
-      record {
-        is = λ rest. step rest ∙ no-fault x r left c fit fe f found z i _ ∙ ap (λ (n : ℕ). scan t x (count t - (i + 1)) (i + 1) (map (place n) (holds c r) ++ rest)) d ∙ b .is rest;
-        ended = b .ended;
-      }
+    stopped : (f ≡ 0 → ⊥) → i < refused → (ps : List Place) → scan t x (count t - i) i (place (65 - left) c ∷ ps) ≡ answerOf (refuse f i)
+    stopped h l ps = step ps ∙ first-fault x r left c f found i _ h ∙ sym (refused-answer f i l)
+
+    pub faulted : (f ≡ 0 → ⊥) → i < refused → Walks t x i (place (65 - left) c ∷ []) (refuse f i)
+    faulted h l =
+        let g : 1 ≤ f = omega arith in
+        record {
+          onward = omega arith;
+          is = λ rest. stopped h l rest ∙ sym (resumed-refused t x (refuse f i) rest (omega arith));
+          ended = λ k. absurd (omega arith);
+        }
+
+    pub meets-fault : count t < refused → (f ≡ 0 → ⊥) → (w : ℕ) → w ≡ refuse f i → Meets t x i left c r w
+    meets-fault s h w e =
+        let g : 1 ≤ f = omega arith in
+        let l : i < refused = omega arith in
+        record {
+          refuses = λ z. (omega arith, λ ps. resumed-next t x i _ l ∙ stopped h l ps ∙ ap answerOf (sym e));
+          passes = λ z. absurd (omega arith);
+        }
+
+    pub meets-none : f ≡ 0 → Meets t x i left c r 0
+    meets-none z = record { refuses = λ k. absurd (k refl); passes = λ _. (there, sym found ∙ z) }
+
+    -- behind a record with no fault come its children
+    module _ (z : f ≡ 0) (l : left ≤ 64) where
+      pub goes-on : (ps : List Place)
+          → scan t x (count t - i) i (place (65 - left) c ∷ ps)
+          ≡ scan t x (count t - (i + 1)) (i + 1) (map (place (65 - (left - 1))) (holds c r) ++ ps)
+      goes-on ps =
+          let one-left = fine-left x r left c f found z in
+          let d : 65 - left + 1 ≡ 65 - (left - 1) = omega arith in
+          step ps
+          ∙ no-fault x r left c f found z i _
+          ∙ ap (λ (n : ℕ). scan t x (count t - (i + 1)) (i + 1) (map (place n) (holds c r) ++ ps)) d
+
+      pub down : (w : ℕ) → Walks t x (i + 1) (map (place (65 - (left - 1))) (holds c r)) w → Walks t x i (place (65 - left) c ∷ []) w
+      down w b = record { onward = omega (arith, b .onward); is = λ rest. goes-on rest ∙ b .is rest; ended = b .ended }

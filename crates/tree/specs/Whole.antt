@@ -8,10 +8,11 @@ use lib.Dec.{ltb}
 use lib.ListN.{length}
 use borrow.Author.Tests.{eq-eqb, ne-eqb, lt-ltb, le-ltb, ltb-true, ltb-false}
 use Rattle.utf8.specs.Rfc3629 as utf8
-use Rattle.utf8.specs.Rfc3629.{Encoded}
-use Rattle.utf8.specs.Laws.{encoded-unique}
+use Rattle.utf8.specs.Rfc3629.{Encoded, none}
+use Rattle.utf8.specs.Laws.{encoded-unique, boundary-text}
 use Rattle.utf8.specs.Decided.{decided}
 use Rattle.utf8.specs.declared.Encoding.{Encoding}
+use Rattle.utf8.specs.declared.Encoding.the-variants.{Valid, Bad}
 use Rattle.record.specs.Record.{count}
 use Rattle.grammar.specs.Grammar.{root}
 use Rattle.grammar.specs.Classes.{classAt, rootAt, root-is}
@@ -48,6 +49,11 @@ module _ (t x : List ℕ) (w : ℕ) (short : count t < refused) (walked : Walks 
       by : (b : Bool) → ltb w refused ≡ b → answerOf w ≡ scan t x (count t) 0 (place 1 root ∷ [])
       by true e = sym (scanned ∙ resumed-next t x w [] (ltb-true w refused e) ∙ left-over t x w (ltb-true w refused e) (walked .ended (ltb-true w refused e)) q)
       by false e = sym (scanned ∙ resumed-refused t x w [] (ltb-false w refused e))
+
+-- a text that is UTF-8 does not start inside a character
+pub starts-whole : (x : List ℕ) (e : Encoding) (m : ℕ) → Encoded x e → m ≡ utf8.number e → m ≡ 0 → utf8.boundary x 0 ≡ true
+starts-whole x Valid m t is z = boundary-text t 0 (omega arith) .1 none
+starts-whole x (Bad p) m t is z = absurd (omega arith)
 
 -- ---- 1, 2, and then the records
 pub short-count : (t : List ℕ) (b : Bool) → b ≡ malformed t → b ≡ false → count t < refused

@@ -1,19 +1,21 @@
 // The check of a flat tree and its text (01, sections 2 and 3).
 //
-// `check_row`, `check_at` and `check_below` call each other on child records, with the remaining depth falling from 64. What the
-// walk of a record and all below it comes to is one number: the index behind it, or from REFUSED on a refusal.
+// `check_row` calls itself on child records, with the remaining depth falling from 64. What the walk of records comes to is one
+// number: the index behind them, or from REFUSED on a refusal.
 ghost use mathlib.Core.Path.{_≡_};
 ghost use mathlib.Core.Bool.{true};
 ghost use mathlib.Core.List.{[], _∷_, map};
 ghost use Prim.Native.Nat.{_+_, _-_, _%_, _≤_, _<_};
 ghost use lib.ListN.{replicate};
+ghost use Rattle.utf8.specs.Rfc3629.{boundary as boundary'};
 ghost use Rattle.spelling.specs.Spelling.{known};
-ghost use Rattle.record.specs.Record.{count as count'};
+ghost use Rattle.record.specs.Record.{count as count', recordAt, markOk};
+ghost use Rattle.grammar.specs.Kind.{TOKEN as TOKEN'};
 ghost use Rattle.grammar.specs.Grammar.{root};
 ghost use Rattle.grammar.specs.Classes.{classesHeld, classAt, tokenAt};
 ghost use Rattle.grammar.specs.Packed.{kindsHeld, ruleOf, along, allHeld};
-ghost use Rattle.tree.specs.Check.{place as at, holds, flagsFit, hasPart, fieldsFit, rangeFits, fits as fits', inside as inside', scan, malformed as malformed', Checks, numberOf, placeOf};
-ghost use Rattle.tree.specs.Walk.{refused, refuse, answerOf, Walks, faultOf};
+ghost use Rattle.tree.specs.Check.{place as at, flagsFit, hasPart, fieldsFit, rangeFits, fits, inside as inside', scan, malformed as malformed', Checks, numberOf, placeOf};
+ghost use Rattle.tree.specs.Walk.{refused, refuse, answerOf, Walks, zeros as zeros', kindFits, partInside, usedFault, faultOf, pastAt, Meets};
 ghost use Rattle.tree.specs.Laws.{Counts};
 use grammar::ROOT;
 use grammar::SLOTS;
@@ -73,6 +75,13 @@ pub enum Answer {
     Ends(usize),
 }
 
+// Whether a record begins with its mark.
+fn marked(r: Record) -> bool
+    ensures { λ b. ⌜ b ≡ markOk r ⌝ }
+{
+    r.mark == record::MARK
+}
+
 // Whether a record has a text part: no kind behind TEXT has one.
 fn has_part(r: Record) -> bool
     ensures { λ b. ⌜ b ≡ hasPart r ⌝ }
@@ -86,11 +95,18 @@ fn has_part(r: Record) -> bool
     r.kind == TEXT
 }
 
+// Whether bytes 8-15 are zero.
+fn zeros(r: Record) -> bool
+    ensures { λ b. ⌜ b ≡ zeros' r ⌝ }
+{
+    (r.start == 0) & (r.len == 0)
+}
+
 // Whether bytes 8-15 are zero, a number, or a text part.
 fn fields_fit(r: Record) -> bool
     ensures { λ b. ⌜ b ≡ fieldsFit r ⌝ }
 {
-    if (r.start == 0) & (r.len == 0) {
+    if zeros(r) {
         return true;
     }
     if r.kind == NUMBER {
@@ -117,11 +133,14 @@ fn number_known(r: Record) -> bool
     spelling::known(r.flags % PRESENT)
 }
 
-// Whether a kind, whose rule this is, defines a record's flags.
+// Whether a kind, whose rule this is, defines a record's flags. Most records have none.
 fn flags_fit(rule: u16, r: Record) -> bool
     requires { ⌜ (rule ≡ ruleOf (r .kind)) × (r .kind < kindsHeld) ⌝ }
     ensures { λ b. ⌜ b ≡ flagsFit r ⌝ }
 {
+    if r.flags == 0 {
+        return true;
+    }
     if r.kind == TOKEN {
         return number_known(r);
     }
@@ -139,30 +158,24 @@ fn count_fits(rule: u16, r: Record) -> bool
     (r.kind == LIST) | (r.kind == RUN)
 }
 
-// Whether a record may stand in a place, as it is.
-fn fits(place: u8, r: Record) -> bool
+// Whether a record may stand in a place, by its kind, its children and its flags.
+fn kind_fits(place: u8, r: Record) -> bool
     requires { ⌜ place < classesHeld ⌝ }
-    ensures { λ b. ⌜ b ≡ fits' (classAt place) r ⌝ }
+    ensures { λ b. ⌜ b ≡ kindFits (classAt place) r ⌝ }
 {
-    if !grammar::allowed(place, r.kind) {
+    if !((grammar::stands(r.kind) >> place as u64) % 2 == 1) {
         return false;
     }
     let rule = grammar::rule(r.kind);
     if !count_fits(rule, r) {
         return false;
     }
-    if !flags_fit(rule, r) {
-        return false;
-    }
-    if !fields_fit(r) {
-        return false;
-    }
-    range_fits(place, r)
+    flags_fit(rule, r)
 }
 
-// Whether a record may stand among the TOKENs of a RUN, as it is.
+// The same for the place of a TOKEN in a RUN.
 fn token_fits(r: Record) -> bool
-    ensures { λ b. ⌜ b ≡ fits' (classAt tokenAt) r ⌝ }
+    ensures { λ b. ⌜ b ≡ kindFits (classAt tokenAt) r ⌝ }
 {
     if r.kind != TOKEN {
         return false;
@@ -170,39 +183,105 @@ fn token_fits(r: Record) -> bool
     if r.kids != 0 {
         return false;
     }
-    if !number_known(r) {
-        return false;
-    }
-    fields_fit(r)
+    number_known(r)
 }
 
-// Whether a record's text part, where it has one, lies inside the text and between characters.
-fn inside(text: &[u8], r: Record) -> bool
-    ensures { λ b. ⌜ b ≡ inside' (now (text .entry)) r ⌝ }
+// Whether a text part lies inside the text and between characters.
+fn part_inside(text: &[u8], r: Record) -> bool
+    ensures { λ b. ⌜ b ≡ partInside (now (text .entry)) r ⌝ }
 {
-    if !has_part(r) {
-        return true;
-    }
     let start = r.start as usize;
     let end = start + r.len as usize;
     if text.len() < end {
         return false;
     }
-    utf8::boundary(text, start) & utf8::boundary(text, end)
+    if !utf8::boundary(text, start) {
+        return false;
+    }
+    utf8::boundary(text, end)
 }
 
-// The number of the first fault of a record with this depth left, where fit tells whether it may stand in its place; or 0.
-fn first_fault(text: &[u8], left: usize, r: Record, fit: bool) -> u64
-    ensures { λ f. ⌜ f ≡ faultOf (now (text .entry)) r left fit ⌝ }
+// Whether a record's text part, where it has one, lies so.
+fn inside(text: &[u8], r: Record) -> bool
+    ensures { λ b. ⌜ b ≡ inside' (now (text .entry)) r ⌝ }
 {
-    if r.mark != record::MARK {
-        return MARK;
+    if has_part(r) {
+        return part_inside(text, r);
     }
-    if !fit {
+    true
+}
+
+// The number of the fault in bytes 8-15 of a record in a place, or 0. Most are zero, which is right everywhere.
+fn used_fault(text: &[u8], place: u8, r: Record) -> u64
+    requires { ⌜ (place < classesHeld) × (boundary' (now text) 0 ≡ true) ⌝ }
+    ensures { λ f. ⌜ f ≡ usedFault (now (text .entry)) (classAt place) r ⌝ }
+{
+    if zeros(r) {
+        return 0;
+    }
+    if !fields_fit(r) {
+        return MISFIT;
+    }
+    if !range_fits(place, r) {
         return MISFIT;
     }
     if !inside(text, r) {
         return OUTSIDE;
+    }
+    0
+}
+
+// The same for a TOKEN.
+fn token_used(text: &[u8], r: Record) -> u64
+    requires { ⌜ r .kind ≡ TOKEN' ⌝ }
+    ensures { λ f. ⌜ f ≡ usedFault (now (text .entry)) (classAt tokenAt) r ⌝ }
+{
+    if r.flags < PRESENT {
+        if zeros(r) {
+            return 0;
+        }
+        return MISFIT;
+    }
+    if !part_inside(text, r) {
+        return OUTSIDE;
+    }
+    0
+}
+
+// The number of the first fault of a record in a place with this depth left, or 0.
+fn first_fault(text: &[u8], place: u8, left: usize, r: Record) -> u64
+    requires { ⌜ (place < classesHeld) × (boundary' (now text) 0 ≡ true) ⌝ }
+    ensures { λ f. ⌜ f ≡ faultOf (now (text .entry)) r left (fits (classAt place) r) ⌝ }
+{
+    if !marked(r) {
+        return MARK;
+    }
+    if !kind_fits(place, r) {
+        return MISFIT;
+    }
+    let used = used_fault(text, place, r);
+    if used != 0 {
+        return used;
+    }
+    if left == 0 {
+        return DEEP;
+    }
+    0
+}
+
+// The same for a TOKEN of a RUN.
+fn token_fault(text: &[u8], left: usize, r: Record) -> u64
+    ensures { λ f. ⌜ f ≡ faultOf (now (text .entry)) r left (fits (classAt tokenAt) r) ⌝ }
+{
+    if !marked(r) {
+        return MARK;
+    }
+    if !token_fits(r) {
+        return MISFIT;
+    }
+    let used = token_used(text, r);
+    if used != 0 {
+        return used;
     }
     if left == 0 {
         return DEEP;
@@ -264,8 +343,7 @@ fn check_tokens(tree: &[u8], text: &[u8], index: u64, left: usize, n: u16) -> u6
             return refusal(ENDS, next);
         }
         let r = record::read(tree, next as usize);
-        let fit = token_fits(r);
-        let fault = first_fault(text, left, r, fit);
+        let fault = token_fault(text, left, r);
         if fault != 0 {
             return refusal(fault, next);
         }
@@ -275,41 +353,34 @@ fn check_tokens(tree: &[u8], text: &[u8], index: u64, left: usize, n: u16) -> u6
     next
 }
 
-// The record at an index, with all below it, in a place with this depth left.
-fn check_at(tree: &[u8], text: &[u8], index: u64, place: u8, left: usize) -> u64
-    requires { ⌜ (count' (now tree) < refused) × ((index ≤ count' (now tree)) × ((place < classesHeld) × (left ≤ 64))) ⌝ }
-    ensures { λ w. ⌜ Walks (now (tree .entry)) (now (text .entry)) index (at (65 - left) (classAt place) ∷ []) w ⌝ }
+// What a walk comes to that finds no record at an index; an index that is a refusal stays one.
+fn past(index: u64) -> u64
+    ensures { λ w. ⌜ w ≡ pastAt index ⌝ }
+{
+    if REFUSED <= index {
+        return index;
+    }
+    refusal(ENDS, index)
+}
+
+// What a walk comes to that is refused at the record r at an index, in a place with this depth left; or 0.
+fn refused_at(tree: &[u8], text: &[u8], index: u64, place: u8, left: usize, r: Record) -> u64
+    requires { ⌜ (place < classesHeld) × ((left ≤ 64) × ((r ≡ recordAt (now tree) index) × ((count' (now tree) < refused) × (boundary' (now text) 0 ≡ true)))) ⌝ }
+    ensures { λ w. ⌜ Meets (now (tree .entry)) (now (text .entry)) index left (classAt place) r w ⌝ }
 {
     if record::count(tree) as u64 <= index {
-        return refusal(ENDS, index);
+        return past(index);
     }
-    let r = record::read(tree, index as usize);
-    let fit = fits(place, r);
-    let fault = first_fault(text, left, r, fit);
+    let fault = first_fault(text, place, left, r);
     if fault != 0 {
         return refusal(fault, index);
     }
-    if r.kids == 0 {
-        return index + 1;
-    }
-    check_below(tree, text, index + 1, place, left - 1, r)
+    0
 }
 
-// The children of a record that fits its place, from an index on.
-fn check_below(tree: &[u8], text: &[u8], index: u64, place: u8, left: usize, r: Record) -> u64
-    requires { ⌜ (count' (now tree) < refused) × ((index ≤ count' (now tree)) × ((place < classesHeld) × ((left < 64) × (fits' (classAt place) r ≡ true)))) ⌝ }
-    ensures { λ w. ⌜ Walks (now (tree .entry)) (now (text .entry)) index (map (at (65 - left)) (holds (classAt place) r)) w ⌝ }
-{
-    if r.kind == RUN {
-        return check_tokens(tree, text, index, left, r.kids);
-    }
-    let row = grammar::row(place, r.kind);
-    check_row(tree, text, index, row, left, r.kids)
-}
-
-// The first n children of a row of places, one behind the other.
+// The first n children of a row of places, one behind the other, and all below each.
 fn check_row(tree: &[u8], text: &[u8], index: u64, row: u64, left: usize, n: u16) -> u64
-    requires { ⌜ (count' (now tree) < refused) × ((index ≤ count' (now tree)) × ((left ≤ 64) × (allHeld row n ≡ true))) ⌝ }
+    requires { ⌜ (count' (now tree) < refused) × ((boundary' (now text) 0 ≡ true) × ((index ≤ count' (now tree)) × ((left ≤ 64) × (allHeld row n ≡ true)))) ⌝ }
     ensures { λ w. ⌜ Walks (now (tree .entry)) (now (text .entry)) index (map (at (65 - left)) (along row n)) w ⌝ }
 {
     let mut next = index;
@@ -317,11 +388,20 @@ fn check_row(tree: &[u8], text: &[u8], index: u64, row: u64, left: usize, n: u16
     let mut rest = n;
     while 0 < rest {
         let place = grammar::first(places);
-        let one = check_at(tree, text, next, place, left);
-        if REFUSED <= one {
-            return one;
+        let r = record::read(tree, next as usize);
+        let stop = refused_at(tree, text, next, place, left, r);
+        if stop != 0 {
+            return stop;
         }
-        next = one;
+        next += 1;
+        if r.kids != 0 {
+            if r.kind == RUN {
+                next = check_tokens(tree, text, next, left - 1, r.kids);
+            } else {
+                let below = grammar::row(place, r.kind);
+                next = check_row(tree, text, next, below, left - 1, r.kids);
+            }
+        }
         places = grammar::turned(places);
         rest -= 1;
     }
@@ -359,7 +439,7 @@ fn answer_of(w: u64) -> Answer
 
 // The records of a tree, from the root on: the root is alone in its row.
 fn check_records(tree: &[u8], text: &[u8]) -> Answer
-    requires { ⌜ count' (now tree) < refused ⌝ }
+    requires { ⌜ (count' (now tree) < refused) × (boundary' (now text) 0 ≡ true) ⌝ }
     ensures { λ r. ⌜ r ≡ scan (now (tree .entry)) (now (text .entry)) (count' (now (tree .entry))) 0 (at 1 root ∷ []) ⌝ }
 {
     let w = check_row(tree, text, 0, ROOT as u64, DEEPEST, 1);

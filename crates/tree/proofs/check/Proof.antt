@@ -1,5 +1,5 @@
 -- `tree::check` meets its contract: each return is the first refusal that fits, or what the records come to.
-use Rattle.tree.specs.Whole.{short-count, is-malformed, too-long, ill, looked-at}
+use Rattle.tree.specs.Whole.{short-count, starts-whole, is-malformed, too-long, ill, looked-at}
 use borrow.Author.Needs.{needs}
 use Rattle.tree.proofs.check.Statement.{statement}
 use Rattle.tree.proofs.check.Tie as tie
@@ -22,7 +22,8 @@ check-records-requires : tie.Need-check-records-requires
 check-records-requires c κs =
     let at-malformed = c .before .before .before .before .before .malformed in
     let at-if1 = c .before .before .before .before .if1 in
-    short-count _ _ (at-malformed .ensures) (at-if1 .left)
+    let at-check = c .before .before .check in
+    (short-count _ _ (at-malformed .ensures) (at-if1 .left), starts-whole _ (at-check .result) _ (at-check .ensures) (c .before .number .ensures) (c .if3 .left))
 
 returns-4 : tie.Need-returns-4
 returns-4 c =

@@ -1,6 +1,6 @@
--- `tree::token_fits` meets its contract: each test that fails, and all of what a TOKEN's place asks.
-use Rattle.tree.specs.Laws.{no-token, token-kids, token-unknown, token-fit}
+-- `tree::token_fits` meets its contract: each test that fails, and all of what a TOKEN's place asks of bytes 2-7.
 use borrow.Author.Needs.{needs}
+use Rattle.tree.specs.Laws.{no-token, token-kids, token-fit}
 use Rattle.tree.proofs.token_fits.Statement.{statement}
 use Rattle.tree.proofs.token_fits.Tie as tie
 
@@ -14,19 +14,9 @@ returns-2 c =
 
 returns-3 : tie.Need-returns-3
 returns-3 c =
-    let at-args = c .before .before .before .before .before .before .args in
-    let at-if1 = c .before .before .before .before .if1 in
-    token-unknown (at-args .r) (at-if1 .left) (c .before .before .if2 .left) _ (c .before .number-known .ensures) (c .if3 .taken)
-
-returns-4 : tie.Need-returns-4
-returns-4 c =
-    let at-args = c .before .before .before .before .before .before .before .args in
-    let at-if1 = c .before .before .before .before .before .if1 in
-    let at-if2 = c .before .before .before .if2 in
-    token-fit (at-args .r) (at-if1 .left) (at-if2 .left) _ (c .before .before .number-known .ensures) (c .before .if3 .left) _ (c .fields-fit .ensures)
+    let at-args = c .before .before .before .before .before .args in
+    let at-if1 = c .before .before .before .if1 in
+    token-fit (at-args .r) (at-if1 .left) (c .before .if2 .left) _ (c .number-known .ensures)
 
 pub token-fits-spec : {M : Type 1} → statement M
-token-fits-spec =
-    tie.close
-    (tie.spec
-    returns returns-2 (λ c κs. search needs) returns-3 (λ c κs. search needs) returns-4)
+token-fits-spec = tie.close (tie.spec returns returns-2 (λ c κs. search needs) returns-3)
