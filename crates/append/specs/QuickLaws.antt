@@ -1,14 +1,13 @@
 -- Laws of the tokens that are laid at once: what they write, what bit they leave, and that no refusal fits.
 use Prim.Native.Nat.{ℕ, _+_, _-_, _≤_, _<_}
 use native.Mathlib.Omega.{arith}
-use native.Mathlib.Nat.{suc-ne-zero}
 use mathlib.Core.Path.{_≡_, refl, _∙_, ap, sym}
-use mathlib.Core.List.{List, [], _∷_, _++_, append-nil}
-use mathlib.Core.Bool.{Bool, true, false, not, cond, _&&_, _||_, Bool·beq, and-false}
+use mathlib.Core.List.{List, [], _++_}
+use mathlib.Core.Bool.{Bool, true, false, not, cond, _&&_, _||_, Bool·beq, and-false, or-false}
 use lib.Dec.{eqb, leb}
 use lib.ListN.{length, getD, length-append}
 use lib.Seq.{sets, sets-eq}
-use borrow.Author.Tests.{le-ltb, le-leb, lt-leb, leb-true, eq-eqb, ne-eqb, eqb-true, not-true}
+use borrow.Author.Tests.{le-ltb, le-leb, lt-leb, leb-true, eq-eqb, ne-eqb, not-true}
 use Rattle.laws.specs.Among.{all, each}
 use Rattle.laws.specs.Below.{below, at}
 use Rattle.laws.specs.Tests.{and-left, and-right, beq}
@@ -17,12 +16,12 @@ use Rattle.utf8.specs.declared.Encoding.the-variants.{Valid}
 use Rattle.blank.specs.Blank.{allBlank}
 use Rattle.spelling.specs.Rows.{rows}
 use Rattle.spelling.specs.Spelling.{row, known, spelling}
-use Rattle.spelling.specs.Token.{TK-BLOB}
 use Rattle.spelling.specs.Laws.{count, everywhere, silent}
-use Rattle.stream.specs.Stream.{tight, opens, gap, gapped, written, spelledBit, valuedBit, added, left, adds, leaves}
+use Rattle.stream.specs.Stream.{tight, opens, adds, leaves}
+use Rattle.stream.specs.Shapes.{silentKind, no-length, silent-spelling, silent-loose, silent-no-blob, spelled-no-blob, word-tight, word-opens, word-added, value-added, word-left, value-left}
 use Rattle.store.specs.Laid.{lead, roomFor, laidTo, laidOut}
 use Rattle.store.specs.Laws as store
-use Rattle.store.specs.Laws.{to-not-apart, at-most-one, laid-no}
+use Rattle.store.specs.Laws.{to-not-apart, at-most-one, laid-no, same-end}
 use Rattle.store.specs.declared.Laid.{Laid}
 use Rattle.store.specs.declared.Laid.the-variants.{Not as NotLaid, To}
 use Rattle.append.specs.declared.Stream.{Stream}
@@ -36,14 +35,13 @@ use Rattle.append.specs.Steps.{Checks}
 use Rattle.append.specs.Laws.{empty, fine, accepted}
 use Rattle.append.specs.Quick.{aloneWords, alone, marked, tightMarks, openingMarks, valueMay, wordMay, quick, quickOut, Comes}
 
--- ---- the table: who has a spelling is known and no blob; one of one byte is a mark of the sets, and a longer one neither tight nor opening
+-- ---- the table: who has a spelling is known, and one of one byte is a mark of the sets
 shaped : ℕ → Bool
 shaped k =
     eqb (length (spelling k)) 0
-    || ((known k && not (eqb k TK-BLOB))
-    && cond (eqb (length (spelling k)) 1)
-    (Bool·beq (tight k) (marked tightMarks (getD (spelling k) 0 0)) && Bool·beq (opens k) (marked openingMarks (getD (spelling k) 0 0)))
-    (not (tight k) && not (opens k)))
+    || (known k
+    && (not (eqb (length (spelling k)) 1)
+    || (Bool·beq (tight k) (marked tightMarks (getD (spelling k) 0 0)) && Bool·beq (opens k) (marked openingMarks (getD (spelling k) 0 0)))))
 
 shaped-below : below shaped count ≡ true
 unfolding shaped known spelling row rows tight opens marked
@@ -54,21 +52,17 @@ unfolding shaped
 shaped-all k = everywhere (λ n. shaped n ≡ true) k (at shaped count shaped-below k) (λ l. rw (silent k (omega arith)))
 
 module _ (k : ℕ) (s : length (spelling k) ≡ 0 → ⊥) where
-  has : (known k && not (eqb k TK-BLOB)) && cond (eqb (length (spelling k)) 1)
-      (Bool·beq (tight k) (marked tightMarks (getD (spelling k) 0 0)) && Bool·beq (opens k) (marked openingMarks (getD (spelling k) 0 0)))
-      (not (tight k) && not (opens k)) ≡ true
+  has : known k && (not (eqb (length (spelling k)) 1)
+      || (Bool·beq (tight k) (marked tightMarks (getD (spelling k) 0 0)) && Bool·beq (opens k) (marked openingMarks (getD (spelling k) 0 0)))) ≡ true
   unfolding shaped
   has = rw (ne-eqb (length (spelling k)) 0 s) at (shaped-all k)
 
   pub spelled-known : known k ≡ true
-  spelled-known = and-left (known k) (not (eqb k TK-BLOB)) (and-left (known k && not (eqb k TK-BLOB)) _ has)
-
-  spelled-no-blob : eqb k TK-BLOB ≡ false
-  spelled-no-blob = not-true (eqb k TK-BLOB) (and-right (known k) (not (eqb k TK-BLOB)) (and-left (known k && not (eqb k TK-BLOB)) _ has))
+  spelled-known = and-left (known k) _ has
 
   module _ (one : length (spelling k) ≡ 1) where
     of-one : Bool·beq (tight k) (marked tightMarks (getD (spelling k) 0 0)) && Bool·beq (opens k) (marked openingMarks (getD (spelling k) 0 0)) ≡ true
-    of-one = rw (eq-eqb (length (spelling k)) 1 one) at (and-right (known k && not (eqb k TK-BLOB)) _ has)
+    of-one = rw (eq-eqb (length (spelling k)) 1 one) at (and-right (known k) _ has)
 
     mark-tight : tight k ≡ marked tightMarks (getD (spelling k) 0 0)
     mark-tight = beq _ _ (and-left (Bool·beq (tight k) (marked tightMarks (getD (spelling k) 0 0))) _ of-one)
@@ -76,100 +70,56 @@ module _ (k : ℕ) (s : length (spelling k) ≡ 0 → ⊥) where
     mark-opens : opens k ≡ marked openingMarks (getD (spelling k) 0 0)
     mark-opens = beq _ _ (and-right (Bool·beq (tight k) (marked tightMarks (getD (spelling k) 0 0))) _ of-one)
 
-  module _ (more : length (spelling k) ≡ 1 → ⊥) where
-    of-more : not (tight k) && not (opens k) ≡ true
-    of-more = rw (ne-eqb (length (spelling k)) 1 more) at (and-right (known k && not (eqb k TK-BLOB)) _ has)
-
-    word-tight : tight k ≡ false
-    word-tight = not-true (tight k) (and-left (not (tight k)) (not (opens k)) of-more)
-
-    word-opens : opens k ≡ false
-    word-opens = not-true (opens k) (and-right (not (tight k)) (not (opens k)) of-more)
-
 -- ---- what a spelling alone writes, and the bit that it leaves
-or-false : (b : Bool) → (b || false) ≡ b
-or-false true = refl
-or-false false = refl
-
-opened : (b : Bool) (k : ℕ) (w : List ℕ) → (length w ≡ 0 → ⊥) → spelledBit b k w ≡ opens k
-unfolding spelledBit
-opened b k [] s = absurd (s refl)
-opened b k (x ∷ w) s = refl
-
 module _ (rec : Stream) (token : ℕ) (p : present token ≡ false) (s : length (spelling (numberOf token)) ≡ 0 → ⊥) where
   word-news : lead (rec .spaced || tight (numberOf token)) ++ spelling (numberOf token) ≡ news rec token []
-  unfolding news adds added gap lead written tokenOf
-  word-news =
-      let k = numberOf token in
-      rw (p, spelled-no-blob k s) (ap (λ (w : List ℕ). cond (rec .spaced || tight k) [] (32 ∷ []) ++ w) (sym (append-nil (spelling k))))
+  unfolding news adds tokenOf
+  word-news = let k = numberOf token in rw p (word-added (rec .spaced) k (spelled-no-blob k s) (spelling k))
 
   word-leaves : opens (numberOf token) ≡ leaves (rec .spaced) (tokenOf token [])
-  unfolding leaves left valuedBit tokenOf
-  word-leaves =
-      let k = numberOf token in
-      rw (p, spelled-no-blob k s) (sym (opened (gapped (rec .spaced) k) k (spelling k) s))
+  unfolding leaves tokenOf
+  word-leaves = let k = numberOf token in rw p (word-left (rec .spaced) k (spelling k) (spelled-no-blob k s) s)
 
 -- ---- and what a value alone does
 shapedAlone : ℕ → Bool
-shapedAlone token =
-    let k = numberOf token in
-    (present token && known k) && (eqb (length (spelling k)) 0 && (not (tight k) && not (eqb k TK-BLOB)))
+shapedAlone token = (present token && known (numberOf token)) && silentKind (numberOf token)
 
 alone-all : all shapedAlone aloneWords ≡ true
-unfolding shapedAlone present numberOf known spelling row rows tight
+unfolding shapedAlone present numberOf known silentKind spelling row rows tight
 alone-all = refl
-
-no-length : (w : List ℕ) → eqb (length w) 0 ≡ true → w ≡ []
-no-length [] e = refl
-no-length (x ∷ w) e = absurd (suc-ne-zero (length w) (eqb-true (length (x ∷ w)) 0 e))
 
 module _ (token : ℕ) (a : alone token ≡ true) where
   kind : ℕ
   kind = numberOf token
 
-  is-alone : shapedAlone token ≡ true
-  unfolding alone
+  is-alone : (present token && known kind) && silentKind kind ≡ true
+  unfolding alone shapedAlone kind
   is-alone = each shapedAlone token aloneWords alone-all a
 
   alone-present : present token ≡ true
-  unfolding shapedAlone kind
   alone-present = and-left (present token) (known kind) (and-left (present token && known kind) _ is-alone)
 
-  alone-known : known kind ≡ true
-  unfolding shapedAlone kind
+  alone-known : known (numberOf token) ≡ true
+  unfolding kind
   alone-known = and-right (present token) (known kind) (and-left (present token && known kind) _ is-alone)
 
-  alone-rest : (eqb (length (spelling kind)) 0 && (not (tight kind) && not (eqb kind TK-BLOB))) ≡ true
-  unfolding shapedAlone kind
-  alone-rest = and-right (present token && known kind) _ is-alone
-
-  alone-silent : spelling kind ≡ []
-  alone-silent = no-length (spelling kind) (and-left (eqb (length (spelling kind)) 0) _ alone-rest)
-
-  alone-kind : (not (tight kind) && not (eqb kind TK-BLOB)) ≡ true
-  alone-kind = and-right (eqb (length (spelling kind)) 0) _ alone-rest
-
-  alone-loose : tight kind ≡ false
-  alone-loose = not-true (tight kind) (and-left (not (tight kind)) _ alone-kind)
-
-  alone-no-blob : eqb kind TK-BLOB ≡ false
-  alone-no-blob = not-true (eqb kind TK-BLOB) (and-right (not (tight kind)) _ alone-kind)
+  alone-silent : silentKind kind ≡ true
+  alone-silent = and-right (present token && known kind) _ is-alone
 
   value-news : (rec : Stream) (value : List ℕ) → lead (rec .spaced) ++ value ≡ news rec token value
-  unfolding kind news adds added gap lead written tokenOf
-  value-news rec value = rw (alone-present, alone-no-blob, alone-silent, alone-loose, or-false (rec .spaced))
+  unfolding kind news adds tokenOf
+  value-news rec value =
+      let n = silent-no-blob kind alone-silent in
+      rw (alone-present, silent-spelling kind alone-silent, ← value-added (rec .spaced) kind n value, silent-loose kind alone-silent, or-false (rec .spaced))
 
   value-leaves : (rec : Stream) (value : List ℕ) → allBlank value ≡ leaves (rec .spaced) (tokenOf token value)
-  unfolding kind leaves left valuedBit tokenOf
-  value-leaves rec value = rw (alone-present, alone-no-blob)
+  unfolding kind leaves tokenOf
+  value-leaves rec value = rw alone-present (value-left (rec .spaced) kind (spelling kind) value (silent-no-blob kind alone-silent))
 
 -- ---- what `lay_all` did is what comes of the bytes
 none : (t : Bool) (d : ℕ) (l : Laid) → l ≡ cond t (To d) NotLaid → l ≡ NotLaid → t ≡ false
 none true d l e n = absurd (to-not-apart d (sym e ∙ n))
 none false d l e n = refl
-
-same-end : (c d : ℕ) → To c ≡ To d → c ≡ d
-same-end c d e = cc
 
 all-of : (t : Bool) (b : Bool) (c d : ℕ) (l : Laid) → l ≡ cond t (To d) NotLaid → l ≡ To c
     → _≡_ {A = Quick} (Done (record { spaced = b; count = c })) (cond t (Done (record { spaced = b; count = d })) Not)

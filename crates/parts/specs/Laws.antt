@@ -13,10 +13,9 @@ use borrow.Author.Tests.{eq-eqb, ne-eqb, le-leb, lt-leb}
 use Rattle.record.specs.Record.{recordAt}
 use Rattle.record.specs.declared.Record.{Record}
 use Rattle.grammar.specs.Kind.{NONE, LIST, TOKEN}
-use Rattle.grammar.specs.Shape.{Class, said, slot, commas, row, given, _·_}
+use Rattle.grammar.specs.Shape.{Class, Shape, said, slot, commas, row, given, _·_}
 use Rattle.grammar.specs.Grammar.{run, maybe}
 use Rattle.laws.specs.Text.{ascii}
-use Rattle.spelling.specs.Token.{TK-ID}
 use Rattle.record.specs.Laws.{nothing as blank}
 use Rattle.tokens.specs.Corners.{id}
 use Rattle.stream.specs.Stream.{Token}
@@ -39,6 +38,10 @@ module _ (x : List ℕ) (a n : ℕ) where
 
   pub part-whole : take (a + n - a) (drop a x) ≡ take n (drop a x)
   part-whole = rw add-sub-cancel-left
+
+-- ---- what is lent, taken up whole
+pub taken-up : {t t′ x x′ w w′ : List ℕ} {s : Shape} {a b : Spot} → t′ ≡ t → x′ ≡ x → w′ ≡ w → Always (source t′ x′) w′ s a b → Always (source t x) w s a b
+taken-up e f g h d r = rw (← e, ← f, ← g) (h d r)
 
 -- ---- a record of one kind, or of another
 module _ {t w o : List ℕ} {k : Record} {p q : Pen} (x : List ℕ) (n : ℕ) (read : k ≡ recordAt t (p .next)) (past : Past t p q) where
@@ -64,9 +67,6 @@ module _ {t w o : List ℕ} {k : Record} {p q : Pen} {b : Spot} (x : List ℕ) (
   pub valued-token : {v : List ℕ} → 0x8000 ≤ k .flags → v ≡ part (source t x) k → Says w (record { kind = k .flags % 0x8000; value = sink.given true v } ∷ []) (q, o) b
       → Puts w (tokenAt (source t x) (p .next)) (p, o) b
   valued-token l is h = a-token is (rw (le-leb 0x8000 (k .flags) l) h)
-
-  pub id-token : {v : List ℕ} → 0x8000 ≤ k .flags → k .flags % 0x8000 ≡ TK-ID → v ≡ part (source t x) k → Says w (id v ∷ []) (q, o) b → Puts w (tokenAt (source t x) (p .next)) (p, o) b
-  id-token l e is h = valued-token l is (rw e h)
 
 -- ---- a LIST
 module _ {t w o : List ℕ} {k : Record} {p q : Pen} (x : List ℕ) (f : ℕ → Out) (sep : List Token) (read : k ≡ recordAt t (p .next)) (past : Past t p q) where

@@ -18,9 +18,11 @@ use grammar::kind::TEXT;
 use grammar::kind::TOKEN;
 use pen::Pen;
 use pen::append;
+use pen::bare;
 use pen::line;
 use pen::pass;
 use pen::said;
+use pen::valued;
 use pen::word;
 use spelling::token::TK_COMMA;
 use spelling::token::TK_CONFLICT;
@@ -51,7 +53,7 @@ pub fn part(text: &[u8], start: usize, len: usize) -> &[u8]
     &text[start..end]
 }
 
-// The next record, a TOKEN. Most have no value, or are a TK_ID, which has no spelling to look up.
+// The next record, a TOKEN.
 fn token(p: Pen, out: &mut [u8], pool: &[u8], tree: &[u8], text: &[u8]) -> Pen
     ensures { λ q. ⌜ Puts (now (pool .entry)) (tokenAt (source (now (tree .entry)) (now (text .entry))) (p .next)) (p, now (out .entry)) (q, now (out .exit)) ⌝ }
 {
@@ -61,14 +63,10 @@ fn token(p: Pen, out: &mut [u8], pool: &[u8], tree: &[u8], text: &[u8]) -> Pen
         return q;
     }
     if r.flags < PRESENT {
-        return append(q, out, pool, r.flags, false, b"");
+        return bare(q, out, pool, r.flags);
     }
     let value = part(text, r.start as usize, r.len as usize);
-    let kind = r.flags % PRESENT;
-    if kind == TK_ID {
-        return said(q, out, pool, value);
-    }
-    append(q, out, pool, kind, true, value)
+    valued(q, out, pool, r.flags % PRESENT, value)
 }
 
 // So many TOKENs, one behind the other.
@@ -85,7 +83,8 @@ fn tokens(p: Pen, out: &mut [u8], pool: &[u8], tree: &[u8], text: &[u8], n: u16)
 }
 
 // The next record, a RUN: its tokens. Any other kind, NONE too, writes nothing. The pen comes in its fields: handed on
-// whole, it would be copied whole, its unused bytes too, and waited for.
+// whole, it would be copied whole, its unused bytes too, and waited for. What is lent is taken up at once, so that it is
+// handed over as places and lengths, and not as where those lie.
 fn run_from(
     spaced: bool,
     at: usize,
@@ -97,6 +96,9 @@ fn run_from(
 ) -> Pen
     ensures { λ q. ⌜ Always (source (now (tree .entry)) (now (text .entry))) (now (pool .entry)) (slot run') (record { sink = record { spaced = spaced; at = at }; next = next }, now (out .entry)) (q, now (out .exit)) ⌝ }
 {
+    let pool = &pool[0..];
+    let tree = &tree[0..];
+    let text = &text[0..];
     let r = record::read(tree, next);
     let sink = Sink { spaced, at };
     let q = pass(Pen { sink, next }, tree);
@@ -199,7 +201,14 @@ fn runs(p: Pen, out: &mut [u8], pool: &[u8], tree: &[u8], text: &[u8], n: u16, c
         lead = commas;
         rest -= 1;
     }
-    q
+    let s = q.sink;
+    Pen {
+        sink: Sink {
+            spaced: s.spaced,
+            at: s.at,
+        },
+        next: q.next,
+    }
 }
 
 // A comma if so.

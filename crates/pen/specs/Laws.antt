@@ -64,6 +64,10 @@ pub appended : {w v : List ℕ} {p : Pen} {o o′ : List ℕ} {s : Sink} {t : To
 unfolding put emit
 appended q h = record { puts = record { is = rw (← q, ← h) } }
 
+-- where the output stayed as it was
+pub says-from : {w : List ℕ} {ts : List Token} {p : Pen} {o o′ : List ℕ} {b : Spot} → o′ ≡ o → Says w ts (p, o′) b → Says w ts (p, o) b
+says-from e h = rw (← e) h
+
 -- ---- what the first functions write
 module _ {e : Source} {w : List ℕ} {d : ℕ} {r : Record} {a b : Spot} where
   pub a-word : {k : ℕ} → Says w (bare k ∷ []) a b → Writes e w d r (word k) a b

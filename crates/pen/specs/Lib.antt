@@ -5,3 +5,4 @@ pub mod Places
 pub mod Flags
 pub mod Unique
 pub mod Emit
+pub mod Quick

@@ -1,12 +1,14 @@
 -- Rules of the spelling table, each by one test that is computed over all of its rows, and a law that turns the test into the rule.
 use Prim.Native.Nat.{ℕ, _+_, _-_, _/_, _%_, _≤_, _<_}
 use native.Mathlib.Omega.{arith}
-use mathlib.Core.Path.{_≡_, refl}
-use mathlib.Core.List.{List, []}
+use native.Mathlib.Nat.{suc-ne-zero}
+use mathlib.Core.Path.{_≡_, refl, _∙_, ap, sym}
+use mathlib.Core.List.{List, [], _∷_}
 use mathlib.Core.Bool.{Bool, true, false, not, _&&_, _||_, Bool·beq, and-false}
 use lib.Dec.{eqb, leb, ltb}
-use lib.ListN.{length, take, drop, List·getD-eq-default}
-use borrow.Author.Tests.{le-leb, lt-leb, leb-true, le-ltb, ltb-true, ltb-false, ne-eqb}
+use lib.ListN.{length, take, drop, length-drop, List·getD-eq-default}
+use lib.Seq.{length-take-le}
+use borrow.Author.Tests.{le-leb, lt-leb, leb-true, leb-false, le-ltb, ltb-true, ltb-false, ne-eqb}
 use Rattle.laws.specs.Among.{all}
 use Rattle.blank.specs.Blank.{blank}
 use Rattle.laws.specs.Below.{below, at}
@@ -88,17 +90,21 @@ silent k h =
     (λ l. equal (spelling k) [] (rw (le-ltb k rowsHeld h) at (at (λ n. ltb n rowsHeld || same (spelling n) []) count silent-below k l)))
     (λ l. rw (row-past k l))
 
--- a look-up, by its row: there is no room for the spelling, or it is a part of the pool
-module _ (t : List ℕ) (k r : ℕ) (e : r ≡ rowOf k) where
-  pub no-spelling : length t < r / lengths + r % lengths → [] ≡ spellingIn t k
-  unfolding spellingIn within
-  no-spelling h = rw (← e, lt-leb (r / lengths + r % lengths) (length t) h)
+-- a part of a pool, by its row: there is no room for it, or it stands there; and a look-up is the part by the row of the number
+module _ (t : List ℕ) (r : ℕ) where
+  pub no-part : length t < r / lengths + r % lengths → [] ≡ within t (r / lengths) (r % lengths)
+  unfolding within
+  no-part h = rw (lt-leb (r / lengths + r % lengths) (length t) h)
 
-  pub spelled-by-row : (n : ℕ) → n ≡ r / lengths + r % lengths → n ≤ length t → take (n - r / lengths) (drop (r / lengths) t) ≡ spellingIn t k
-  unfolding spellingIn within
-  spelled-by-row n p h =
+  pub part-by-row : (n : ℕ) → n ≡ r / lengths + r % lengths → n ≤ length t → take (n - r / lengths) (drop (r / lengths) t) ≡ within t (r / lengths) (r % lengths)
+  unfolding within
+  part-by-row n p h =
       let q : n - r / lengths ≡ r % lengths = omega (arith, p) in
-      rw (← e, le-leb (r / lengths + r % lengths) (length t) (omega (arith, p)), q)
+      rw (le-leb (r / lengths + r % lengths) (length t) (omega (arith, p)), q)
+
+  pub spelled-by-row : (k : ℕ) (w : List ℕ) → r ≡ rowOf k → w ≡ within t (r / lengths) (r % lengths) → w ≡ spellingIn t k
+  unfolding spellingIn
+  spelled-by-row k w e h = rw (← e) h
 
 -- no fixed spelling is longer than AUTOINCREMENT
 abbrev pub longestSpelling : ℕ
@@ -128,6 +134,45 @@ pub bounds : (k : ℕ) → k < rowsHeld → rowOf k / lengths + rowOf k % length
 bounds k h =
     leb-true (rowOf k / lengths + rowOf k % lengths) (length bytes)
     (at (λ n. leb (rowOf n / lengths + rowOf n % lengths) (length bytes)) rowsHeld bounds-below k h)
+
+-- what a lent pool has a spelling for is as long there as in the rows
+within-length : (t : List ℕ) (i n : ℕ) → i + n ≤ length t → length (within t i n) ≡ n
+unfolding within
+within-length t i n h = rw (le-leb (i + n) (length t) h) (length-take-le n (drop i t) (omega (arith, length-drop i t)))
+
+within-short : (t : List ℕ) (i n : ℕ) → length t < i + n → length (within t i n) ≡ 0
+unfolding within
+within-short t i n h = rw (lt-leb (i + n) (length t) h)
+
+row-length : (k : ℕ) → k < rowsHeld → length (spelling k) ≡ rowOf k % lengths
+unfolding spellingIn
+row-length k h = ap length (sym (spells k)) ∙ within-length bytes (rowOf k / lengths) (rowOf k % lengths) (bounds k h)
+
+pub spelled-length : (t : List ℕ) (k : ℕ) → (length (spellingIn t k) ≡ 0 → ⊥) → length (spellingIn t k) ≡ length (spelling k)
+unfolding spellingIn
+spelled-length t k s = by (ltb k rowsHeld) refl (leb (i + n) (length t)) refl
+  where
+    i : ℕ
+    i = rowOf k / lengths
+
+    n : ℕ
+    n = rowOf k % lengths
+
+    by : (a : Bool) → ltb k rowsHeld ≡ a → (b : Bool) → leb (i + n) (length t) ≡ b → length (within t i n) ≡ length (spelling k)
+    by true h true l = within-length t i n (leb-true (i + n) (length t) l) ∙ sym (row-length k (ltb-true k rowsHeld h))
+    by true h false l = absurd (s (within-short t i n (leb-false (i + n) (length t) l)))
+    by false h true l =
+        let z : n ≡ 0 = omega (arith, row-none k (ltb-false k rowsHeld h)) in
+        absurd (s (within-length t i n (leb-true (i + n) (length t) l) ∙ z))
+    by false h false l = absurd (s (within-short t i n (leb-false (i + n) (length t) l)))
+
+pub spelled-none : (t : List ℕ) (k : ℕ) → spelling k ≡ [] → spellingIn t k ≡ []
+spelled-none t k e = by (spellingIn t k) refl
+  where
+    by : (w : List ℕ) → spellingIn t k ≡ w → w ≡ []
+    by [] h = refl
+    by (x ∷ w) h =
+        absurd (suc-ne-zero (length w) (sym (ap length h) ∙ spelled-length t k (λ z. suc-ne-zero (length w) (sym (ap length h) ∙ z)) ∙ ap length e))
 
 -- no byte of a fixed spelling is a blank
 abbrev pub solid : List ℕ → Bool

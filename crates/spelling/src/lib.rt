@@ -5,8 +5,9 @@
 pub mod token;
 
 ghost use mathlib.Core.Path.{_≡_};
+ghost use Prim.Native.Nat.{_/_, _%_};
 ghost use Rattle.spelling.specs.Spelling.{known as known'};
-ghost use Rattle.spelling.specs.Table.{bytes as bytes', rowOf, spellingIn};
+ghost use Rattle.spelling.specs.Table.{bytes as bytes', rowOf, spellingIn, within, lengths};
 
 // A row is an offset into the pool times this number, and a length, which is below it.
 const LENGTHS: usize = 16;
@@ -32,7 +33,7 @@ pub fn pool() -> [u8; 824]
 
 // The row of a token number, in the order of token.rs: where its spelling stands in the pool and, in the last hex digit,
 // how long it is; length 0 is no fixed spelling.
-fn row(number: u16) -> u16
+pub fn row(number: u16) -> u16
     ensures { λ r. ⌜ r ≡ rowOf number ⌝ }
 {
     match number {
@@ -238,7 +239,15 @@ fn row(number: u16) -> u16
 pub fn of(pool: &[u8], number: u16) -> &[u8]
     ensures { λ r. ⌜ now r ≡ spellingIn (now (pool .entry)) number ⌝ }
 {
-    let row = row(number) as usize;
+    cut(pool, row(number))
+}
+
+// The part of the lent pool that a row says; nothing where the pool is too short. Who asks for the row first has but a
+// number to wait for, and the rest is compiled into it.
+pub fn cut(pool: &[u8], row: u16) -> &[u8]
+    ensures { λ r. ⌜ now r ≡ within (now (pool .entry)) (row / lengths) (row % lengths) ⌝ }
+{
+    let row = row as usize;
     let start = row / LENGTHS;
     let end = start + row % LENGTHS;
     if pool.len() < end {

@@ -66,9 +66,16 @@ unfolding laidTo laidOut
 all-laid at a spaced v out n h e = let b = behind at a spaced v out n e in rw (has-room at (length out) v n h) (ap To (b .0), b .1)
 
 -- what an answer says
-no : (t : Bool) (d : ℕ) (x y z : List ℕ) (r : Laid) → r ≡ cond t (To d) Not → x ≡ cond t y z → r ≡ Not → x ≡ z
+pub no : (t : Bool) (d : ℕ) (x y z : List ℕ) (r : Laid) → r ≡ cond t (To d) Not → x ≡ cond t y z → r ≡ Not → x ≡ z
 no true d x y z r e f g = absurd (to-not-apart d (sym e ∙ g))
 no false d x y z r e f g = f
+
+pub same-end : (c d : ℕ) → To c ≡ To d → c ≡ d
+same-end c d e = cc
+
+pub yes : (t : Bool) (c d : ℕ) (x y z : List ℕ) (r : Laid) → r ≡ cond t (To d) Not → x ≡ cond t y z → r ≡ To c → (c ≡ d) × (x ≡ y)
+yes true c d x y z r e f g = (same-end c d (sym g ∙ e), f)
+yes false c d x y z r e f g = absurd (to-not-apart c (sym g ∙ e))
 
 some : (t : Bool) (c d : ℕ) (r : Laid) → r ≡ cond t (To d) Not → r ≡ To c → t ≡ true
 some true c d r e g = refl

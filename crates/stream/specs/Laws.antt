@@ -29,7 +29,7 @@ pub count-full : (at n : ℕ) → most < at + n → count at n ≡ most
 unfolding count
 count-full at n h = omega arith
 
-count-more : (at a b : ℕ) → count (count at a) b ≡ count at (a + b)
+pub count-more : (at a b : ℕ) → count (count at a) b ≡ count at (a + b)
 unfolding count
 count-more at a b = omega arith
 

@@ -3,3 +3,4 @@ pub mod Sink
 pub mod Laws
 pub mod Length
 pub mod Cases
+pub mod Shapes

@@ -28,7 +28,7 @@ pub struct Sink {
 }
 
 // n more, but no more than the largest number.
-fn plus(at: usize, n: usize) -> usize
+pub fn plus(at: usize, n: usize) -> usize
     ensures { λ r. ⌜ r ≡ count at n ⌝ }
 {
     if n <= MOST - at { at + n } else { MOST }
@@ -46,7 +46,7 @@ fn put(s: Sink, out: &mut [u8], v: &[u8]) -> Sink
 }
 
 // A byte is stored and counted.
-fn put_byte(s: Sink, out: &mut [u8], b: u8) -> Sink
+pub fn put_byte(s: Sink, out: &mut [u8], b: u8) -> Sink
     ensures { λ r. ⌜ (r, now (out .exit)) ≡ pour (s, now (out .entry)) (b ∷ []) ⌝ }
 {
     store::store_byte(out, s.at, b);
@@ -67,14 +67,14 @@ fn tight(kind: u16) -> bool
 }
 
 // Whether the spelling of a kind sets the bit.
-fn opens(kind: u16) -> bool
+pub fn opens(kind: u16) -> bool
     ensures { λ r. ⌜ r ≡ opens' kind ⌝ }
 {
     (kind == TK_LP) | ((kind == TK_DOT) | (kind == TK_LBRACKET))
 }
 
 // The space before a token, where there is one.
-fn gap(s: Sink, out: &mut [u8], kind: u16) -> Sink
+pub fn gap(s: Sink, out: &mut [u8], kind: u16) -> Sink
     ensures { λ r. ⌜ (r, now (out .exit)) ≡ mark (pour (s, now (out .entry)) (gap' (s .spaced) kind)) (gapped (s .spaced) kind) ⌝ }
 {
     if s.spaced | tight(kind) {

@@ -35,8 +35,9 @@ loop-again c d =
 
 returns : tie.Need-returns Inv-loop μ-loop
 returns c d =
-    let at-loop = c .before in
-    row-done _ _ _ _ (c .loop-test .left) (at-loop .loop .inv d)
+    let at-loop-test = c .before in
+    let at-loop = at-loop-test .before in
+    row-done _ _ _ _ (at-loop-test .loop-test .left) (at-loop .loop .inv d)
 
 pub runs-spec : {M : Type 1} → statement M
 runs-spec =

@@ -1,8 +1,8 @@
--- `parts::token` writes the token that the record is, without a value, a TK_ID, or with another spelling.
+-- `parts::token` writes the token that the record is, without a value or with one.
 use native.Mathlib.Omega.{arith}
 use borrow.Author.Needs.{needs}
 use Rattle.grammar.specs.Kind.{TOKEN}
-use Rattle.parts.specs.Laws.{of-other, bare-token, id-token, valued-token}
+use Rattle.parts.specs.Laws.{of-other, bare-token, valued-token}
 use Rattle.parts.proofs.token.Statement.{statement}
 use Rattle.parts.proofs.token.Tie as tie
 
@@ -15,44 +15,31 @@ returns c =
 
 returns-2 : tie.Need-returns-2
 returns-2 c =
-    let at-append = c .before .before in
-    let at-if2 = at-append .before .before .before in
+    let at-bare = c .before .before in
+    let at-if2 = at-bare .before .before in
     let at-if1 = at-if2 .before .before in
     let at-pass = at-if1 .before .before in
     let at-read = at-pass .before in
     let at-args = at-read .before .before .before .before .before in
     bare-token (at-args .args .text .now) (at-read .read .ensures) (at-pass .pass .ensures) (at-if1 .if1 .left) (omega (arith, at-if2 .if2 .taken))
-    (at-append .append .ensures)
+    (at-bare .bare .ensures)
 
 returns-3 : tie.Need-returns-3
 returns-3 c =
-    let at-said = c .before .before in
-    let at-if3 = at-said .before .before in
-    let at-part = at-if3 .before .before in
-    let at-if2 = at-part .before .before .before in
-    let at-if1 = at-if2 .before .before in
-    let at-pass = at-if1 .before .before in
-    let at-read = at-pass .before in
-    let at-args = at-read .before .before .before .before .before in
-    id-token (at-args .args .text .now) (at-read .read .ensures) (at-pass .pass .ensures) (at-if1 .if1 .left) (omega (arith, at-if2 .if2 .left))
-    (at-if3 .if3 .taken) (at-part .part .ensures) (at-said .said .ensures)
-
-returns-4 : tie.Need-returns-4
-returns-4 c =
-    let at-append = c .before .before in
-    let at-part = at-append .before .before .before .before in
+    let at-valued = c .before .before in
+    let at-part = at-valued .before .before .before in
     let at-if2 = at-part .before .before .before in
     let at-if1 = at-if2 .before .before in
     let at-pass = at-if1 .before .before in
     let at-read = at-pass .before in
     let at-args = at-read .before .before .before .before .before in
     valued-token (at-args .args .text .now) (at-read .read .ensures) (at-pass .pass .ensures) (at-if1 .if1 .left) (omega (arith, at-if2 .if2 .left))
-    (at-part .part .ensures) (at-append .append2 .ensures)
+    (at-part .part .ensures) (at-valued .valued .ensures)
 
 pub token-spec : {M : Type 1} → statement M
 token-spec =
     tie.close
     (tie.spec
-    (λ c κs. search needs) (λ c κs. search needs) returns (λ c. search needs) (λ c κs. search needs)
-    (λ c. search needs) returns-2 (λ c. search needs) (λ c. search needs) (λ c κs. search needs)
-    (λ c κs. search needs) (λ c. search needs) returns-3 (λ c κs. search needs) (λ c. search needs) returns-4)
+    (λ c κs. search needs) (λ c κs. search needs) returns (λ c κs. search needs) (λ c. search needs)
+    returns-2 (λ c. search needs) (λ c. search needs) (λ c κs. search needs) (λ c κs. search needs)
+    (λ c. search needs) returns-3)

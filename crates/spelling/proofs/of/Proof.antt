@@ -1,23 +1,11 @@
--- `spelling::of` meets its contract: the row of the number tells what part of the pool its spelling is.
-use mathlib.Core.Path.{refl}
+-- `spelling::of` meets its contract: it is the part of the pool by the row of the number.
 use borrow.Author.Needs.{needs}
-use Rattle.spelling.specs.Laws.{no-spelling, spelled-by-row}
+use Rattle.spelling.specs.Laws.{spelled-by-row}
 use Rattle.spelling.proofs.of.Statement.{statement}
 use Rattle.spelling.proofs.of.Tie as tie
 
 returns : tie.Need-returns
-returns c =
-    let at-args = c .before .before .before .before .args in
-    no-spelling (at-args .pool .now) _ _ (c .before .before .row .ensures) (c .before .if1 .taken)
-
-returns-2 : tie.Need-returns-2
-returns-2 c =
-    let at-args = c .before .before .before .before .args in
-    spelled-by-row (at-args .pool .now) _ _ (c .before .before .row .ensures) _ refl (c .before .if1 .left)
+returns c = spelled-by-row _ _ _ _ (c .before .row .ensures) (c .cut .ensures)
 
 pub of-spec : {M : Type 1} → statement M
-of-spec =
-    tie.close
-    (tie.spec
-    (λ c κs. search needs) (λ c. search needs) (λ c. search needs) (λ c. search needs) returns (λ c. search needs)
-    (λ c. search needs) (λ c. search needs) returns-2)
+of-spec = tie.close (tie.spec (λ c κs. search needs) (λ c κs. search needs) returns)
