@@ -7,6 +7,7 @@ ghost use Rattle.grammar.specs.Grammar.{shape, node, parens};
 ghost use Rattle.pen.specs.Pen.{source, Below, WithText};
 ghost use Rattle.clause.specs.Later.{operatorsLater};
 use super::select::list;
+use super::select::list_in_parens;
 use grammar::kind::CUSTOM_TYPE;
 use grammar::kind::OPERATOR_CLAUSE;
 use grammar::kind::STRUCT;
@@ -21,19 +22,8 @@ use pen::pass;
 use pen::said;
 use pen::word;
 use spelling::token::TK_AS;
-use spelling::token::TK_LP;
-use spelling::token::TK_RP;
 
-// The fields, in brackets.
-fn fields(p: Pen, out: &mut [u8], pool: &[u8], tree: &[u8], text: &[u8], left: usize) -> Pen
-    ensures { λ q. ⌜ Below (source (now (tree .entry)) (now (text .entry))) (now (pool .entry)) left (parens (commas (node (TypeField ∷ [])))) (p, now (out .entry)) (q, now (out .exit)) ⌝ }
-{
-    let q = word(p, out, pool, TK_LP);
-    let q = list(q, out, pool, tree, text, left, TYPE_FIELD, true);
-    word(q, out, pool, TK_RP)
-}
-
-// AS, a word and the fields: Struct (111) and Union (112).
+// AS, a word and the fields, in brackets: Struct (111) and Union (112).
 fn type_fields(
     p: Pen,
     out: &mut [u8],
@@ -47,10 +37,10 @@ fn type_fields(
 {
     let q = word(p, out, pool, TK_AS);
     let q = said(q, out, pool, value);
-    fields(q, out, pool, tree, text, left)
+    list_in_parens(q, out, pool, tree, text, left, TYPE_FIELD)
 }
 
-// The parameters, unless there are none.
+// The parameters, in brackets, unless there are none.
 fn params(p: Pen, out: &mut [u8], pool: &[u8], tree: &[u8], text: &[u8], left: usize) -> Pen
     ensures { λ q. ⌜ Below (source (now (tree .entry)) (now (text .entry))) (now (pool .entry)) left (filled (parens (commas (node (TypeParam ∷ []))))) (p, now (out .entry)) (q, now (out .exit)) ⌝ }
 {
@@ -58,9 +48,7 @@ fn params(p: Pen, out: &mut [u8], pool: &[u8], tree: &[u8], text: &[u8], left: u
     if r.kids == 0 {
         return pass(p, tree);
     }
-    let q = word(p, out, pool, TK_LP);
-    let q = list(q, out, pool, tree, text, left, TYPE_PARAM, true);
-    word(q, out, pool, TK_RP)
+    list_in_parens(p, out, pool, tree, text, left, TYPE_PARAM)
 }
 
 // The operators and the default: held in this order, written in the other.

@@ -6,7 +6,7 @@ ghost use Rattle.record.specs.declared.Record.{Record as Record'};
 ghost use Rattle.spelling.specs.Token.{TK-FROM};
 ghost use Rattle.grammar.specs.Kind.{SelectBody, CompoundSelect, OneSelect, Values, JoinedTable, Table, TableCall, TableSelect, Sub, CommonTableExpr};
 ghost use Rattle.grammar.specs.Shape.{slot, commas as commas', row as row'};
-ghost use Rattle.grammar.specs.Grammar.{shape, node, clause as clause', select as select', oneSelect, fromClause, selectTable, with};
+ghost use Rattle.grammar.specs.Grammar.{shape, node, parens, clause as clause', select as select', oneSelect, fromClause, selectTable, with};
 ghost use Rattle.pen.specs.Pen.{source, Writes, Always, Below, IfFlags};
 ghost use Rattle.parts.specs.Lists.{RowOf};
 ghost use Rattle.clause.specs.Held.{held};
@@ -432,4 +432,21 @@ pub fn list(
         return q;
     }
     elements(q, out, pool, tree, text, left, kind, r.kids, commas)
+}
+
+// The same, with commas and in brackets.
+pub fn list_in_parens(
+    p: Pen,
+    out: &mut [u8],
+    pool: &[u8],
+    tree: &[u8],
+    text: &[u8],
+    left: usize,
+    kind: u16,
+) -> Pen
+    ensures { λ q. ⌜ Below (source (now (tree .entry)) (now (text .entry))) (now (pool .entry)) left (parens (commas' (node (held kind)))) (p, now (out .entry)) (q, now (out .exit)) ⌝ }
+{
+    let q = word(p, out, pool, TK_LP);
+    let q = list(q, out, pool, tree, text, left, kind, true);
+    word(q, out, pool, TK_RP)
 }

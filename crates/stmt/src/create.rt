@@ -11,6 +11,7 @@ ghost use Rattle.stmt.specs.Parts.{indexOptions, triggerBody, viewBody, 
 use clause::create_table::create_table_body;
 use clause::custom::create_type_body;
 use clause::select::list;
+use clause::select::list_in_parens;
 use clause::select::select;
 use corners::number;
 use grammar::kind::DOMAIN_CONSTRAINT;
@@ -37,13 +38,11 @@ use spelling::token::TK_EACH;
 use spelling::token::TK_END;
 use spelling::token::TK_FOR;
 use spelling::token::TK_INDEX;
-use spelling::token::TK_LP;
 use spelling::token::TK_MATERIALIZED;
 use spelling::token::TK_NOT;
 use spelling::token::TK_NULL;
 use spelling::token::TK_ON;
 use spelling::token::TK_ROW;
-use spelling::token::TK_RP;
 use spelling::token::TK_TABLE;
 use spelling::token::TK_TEMP;
 use spelling::token::TK_TRIGGER;
@@ -65,9 +64,7 @@ fn index_options(p: Pen, out: &mut [u8], pool: &[u8], tree: &[u8], text: &[u8], 
         return pass(p, tree);
     }
     let q = word(p, out, pool, TK_WITH);
-    let q = word(q, out, pool, TK_LP);
-    let q = list(q, out, pool, tree, text, left, PAIR, true);
-    word(q, out, pool, TK_RP)
+    list_in_parens(q, out, pool, tree, text, left, PAIR)
 }
 
 // CreateIndex (37).

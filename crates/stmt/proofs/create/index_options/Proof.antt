@@ -15,20 +15,15 @@ returns c r =
 returns-2 : tie.Need-returns-2
 unfolding held
 returns-2 c r =
-    let at-word3 = c .before .before in
-    let at-list = at-word3 .before .before .before .before in
-    let at-word2 = at-list .before .before .before .before in
-    let at-word = at-word2 .before .before .before .before in
+    let at-list = c .before .before in
+    let at-word = at-list .before .before .before .before in
     let at-if1 = at-word .before .before in
     let at-read = at-if1 .before .before in
-    filled-some (at-read .read .ensures) (at-if1 .if1 .left) (at-word .word .ensures _ _ r
-    ▹ at-word2 .word2 .ensures _ _ r
-    ▹ at-list .list .ensures r
-    ▹ at-word3 .word3 .ensures _ _ r)
+    filled-some (at-read .read .ensures) (at-if1 .if1 .left) (at-word .word .ensures _ _ r ▹ at-list .list-in-parens .ensures r)
 
 pub index-options-spec : {M : Type 1} → statement M
 index-options-spec =
     tie.close
     (tie.spec
-    (λ c κs. search needs) (λ c κs. search needs) returns (λ c κs. search needs) (λ c κs. search needs)
-    (λ c κs. search needs) (λ c κs. search needs) (λ c. search needs) returns-2)
+    (λ c κs. search needs) (λ c κs. search needs) returns (λ c κs. search needs) (λ c κs. search needs) (λ c. search needs)
+    returns-2)
