@@ -1,5 +1,3 @@
 pub mod Append
 pub mod Steps
 pub mod Laws
-pub mod Quick
-pub mod QuickLaws

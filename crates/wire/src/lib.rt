@@ -10,8 +10,8 @@ ghost use Rattle.laws.specs.Little.{fromLittle};
 ghost use Rattle.append.specs.Append.{place as place', code as code'};
 ghost use Rattle.wire.specs.Wire.{wellFormed, unpacked, bitOf, packed, repacked, Crosses};
 use append::Answer;
-use append::Quick;
 use append::Stream;
+use quick::Quick;
 
 // All places are below this number.
 pub const PLACES: u64 = 0x1_0000_0000;
@@ -171,7 +171,7 @@ fn bare(rec: &mut [u8], out: &mut [u8], token: u16, value: &[u8]) -> u64
     ensures { λ r. ⌜ Crosses (now (rec .entry)) (now (out .entry)) token (now (value .entry)) r (now (rec .exit)) (now (out .exit)) ⌝ }
 {
     let before = unpack(rec);
-    let q = append::word_alone(before, out, token);
+    let q = quick::word_alone(before, out, token);
     match q {
         Quick::Done(s) => laid(rec, before.count, s),
         Quick::Not => checked(rec, out, token, value),
@@ -184,7 +184,7 @@ fn valued(rec: &mut [u8], out: &mut [u8], token: u16, value: &[u8]) -> u64
     ensures { λ r. ⌜ Crosses (now (rec .entry)) (now (out .entry)) token (now (value .entry)) r (now (rec .exit)) (now (out .exit)) ⌝ }
 {
     let before = unpack(rec);
-    let q = append::value_alone(before, out, token, value);
+    let q = quick::value_alone(before, out, token, value);
     match q {
         Quick::Done(s) => laid(rec, before.count, s),
         Quick::Not => checked(rec, out, token, value),

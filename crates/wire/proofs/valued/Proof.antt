@@ -1,5 +1,5 @@
 -- `wire::valued` meets its contract: the token was laid at once, which is to append it, or nothing was done and all refusals are asked for.
-use Rattle.append.specs.QuickLaws.{value-done, not-done}
+use Rattle.quick.specs.Laws.{value-done, not-done}
 use Rattle.wire.specs.Laws.{nine-long, laid-crosses, then-crosses}
 use borrow.Author.Needs.{needs}
 use Rattle.wire.proofs.valued.Statement.{statement}

@@ -1,10 +1,10 @@
--- `append::mark` meets its contract: its byte is looked up in both sets, and it is laid or nothing is.
+-- `quick::mark` meets its contract: its byte is looked up in both sets, and it is laid or nothing is.
 use mathlib.Core.Path.{ap}
 use mathlib.Core.Bool.{Bool, _||_}
-use Rattle.append.specs.QuickLaws.{laid-none, laid-all}
+use Rattle.quick.specs.Laws.{laid-none, laid-all}
 use borrow.Author.Needs.{needs}
-use Rattle.append.proofs.mark.Statement.{statement}
-use Rattle.append.proofs.mark.Tie as tie
+use Rattle.quick.proofs.mark.Statement.{statement}
+use Rattle.quick.proofs.mark.Tie as tie
 
 returns : tie.Need-returns
 returns c =

@@ -24,16 +24,16 @@ use Rattle.store.specs.Laws as store
 use Rattle.store.specs.Laws.{to-not-apart, at-most-one, laid-no, same-end}
 use Rattle.store.specs.declared.Laid.{Laid}
 use Rattle.store.specs.declared.Laid.the-variants.{Not as NotLaid, To}
 use Rattle.append.specs.declared.Stream.{Stream}
 use Rattle.append.specs.declared.Answer.{Answer}
 use Rattle.append.specs.declared.Answer.the-variants.{Added}
 use Rattle.append.specs.declared.Check.the-variants.{Fine}
-use Rattle.append.specs.declared.Quick.{Quick}
-use Rattle.append.specs.declared.Quick.the-variants.{Not, Done}
+use Rattle.quick.specs.declared.Quick.{Quick}
+use Rattle.quick.specs.declared.Quick.the-variants.{Not, Done}
 use Rattle.append.specs.Append.{Appends, numberOf, present, tokenOf, news, longest, room, recordAfter, outputAfter}
 use Rattle.append.specs.Steps.{Checks}
 use Rattle.append.specs.Laws.{empty, fine, accepted}
-use Rattle.append.specs.Quick.{aloneWords, alone, marked, tightMarks, openingMarks, valueMay, wordMay, quick, quickOut, Comes}
+use Rattle.quick.specs.Quick.{aloneWords, alone, marked, tightMarks, openingMarks, valueMay, wordMay, quick, quickOut, Comes}
 
 -- ---- the table: who has a spelling is known, and one of one byte is a mark of the sets
 shaped : ℕ → Bool

@@ -1,14 +1,14 @@
--- `append::word_alone` meets its contract: with a value nothing is done, and without one the word is the kind's spelling.
+-- `quick::word_alone` meets its contract: with a value nothing is done, and without one the word is the kind's spelling.
 use native.Mathlib.Omega.{arith}
 use mathlib.Core.Path.{sym, _∙_}
 use lib.ListN.{length}
 use lib.Seq.{length-take-le}
 use Rattle.words.specs.Words.{begins, within}
 use Rattle.append.specs.Laws.{word-is}
-use Rattle.append.specs.QuickLaws.{nothing, with-value, word-comes}
+use Rattle.quick.specs.Laws.{nothing, with-value, word-comes}
 use borrow.Author.Needs.{needs}
-use Rattle.append.proofs.word_alone.Statement.{statement}
-use Rattle.append.proofs.word_alone.Tie as tie
+use Rattle.quick.proofs.word_alone.Statement.{statement}
+use Rattle.quick.proofs.word_alone.Tie as tie
 
 returns : tie.Need-returns
 returns c =

@@ -11,10 +11,10 @@ use Rattle.utf8.specs.Plain.{allPlain}
 use Rattle.spelling.specs.Spelling.{spelling}
 use Rattle.spelling.specs.Token.{TK-ID, TK-STRING, TK-INTEGER, TK-FLOAT, TK-VARIABLE, TK-JOIN-KW, TK-LIKE-KW, TK-CTIME-KW, TK-PTR}
 use Rattle.store.specs.Laid.{roomFor}
 use Rattle.append.specs.declared.Stream.{Stream}
-use Rattle.append.specs.declared.Quick.{Quick}
-use Rattle.append.specs.declared.Quick.the-variants.{Not, Done}
+use Rattle.quick.specs.declared.Quick.{Quick}
+use Rattle.quick.specs.declared.Quick.the-variants.{Not, Done}
 use Rattle.append.specs.Append.{numberOf, present, longest}
 
 -- the token words with a value of kinds that are written by it alone
 abbrev pub aloneWords : List ℕ

@@ -1,12 +1,12 @@
--- `append::value_alone` meets its contract: where a test fails nothing is done, and else the value is all that the token writes.
+-- `quick::value_alone` meets its contract: where a test fails nothing is done, and else the value is all that the token writes.
 use native.Mathlib.Omega.{arith}
 use mathlib.Core.Path.{refl, sym, _∙_}
 use lib.ListN.{length}
 use borrow.Author.Tests.{not-true, not-false}
-use Rattle.append.specs.QuickLaws.{nothing, no-value, not-alone, not-plain, over-long, value-comes, laid-none, laid-all}
+use Rattle.quick.specs.Laws.{nothing, no-value, not-alone, not-plain, over-long, value-comes, laid-none, laid-all}
 use borrow.Author.Needs.{needs}
-use Rattle.append.proofs.value_alone.Statement.{statement}
-use Rattle.append.proofs.value_alone.Tie as tie
+use Rattle.quick.proofs.value_alone.Statement.{statement}
+use Rattle.quick.proofs.value_alone.Tie as tie
 
 returns : tie.Need-returns
 returns c =

@@ -1,13 +1,13 @@
--- `append::bare` meets its contract: a mark and a longer spelling write what the table says of them.
+-- `quick::bare` meets its contract: a mark and a longer spelling write what the table says of them.
 use Prim.Native.Nat.{_<_}
 use native.Mathlib.Omega.{arith}
 use mathlib.Core.Path.{refl}
 use lib.ListN.{length}
 use Rattle.store.specs.Laws.{laid-some}
-use Rattle.append.specs.QuickLaws.{laid-none, laid-all, mark-comes, longer-comes}
+use Rattle.quick.specs.Laws.{laid-none, laid-all, mark-comes, longer-comes}
 use borrow.Author.Needs.{needs}
-use Rattle.append.proofs.bare.Statement.{statement}
-use Rattle.append.proofs.bare.Tie as tie
+use Rattle.quick.proofs.bare.Statement.{statement}
+use Rattle.quick.proofs.bare.Tie as tie
 
 mark-requires : tie.Need-mark-requires
 mark-requires c κs = omega (arith, c .before .if1 .taken)

@@ -1,9 +1,9 @@
--- `append::marked` meets its contract: the bit of the byte.
+-- `quick::marked` meets its contract: the bit of the byte.
 use mathlib.Core.Path.{refl}
-use Rattle.append.specs.Quick.{marked}
+use Rattle.quick.specs.Quick.{marked}
 use borrow.Author.Needs.{needs}
-use Rattle.append.proofs.marked.Statement.{statement}
-use Rattle.append.proofs.marked.Tie as tie
+use Rattle.quick.proofs.marked.Statement.{statement}
+use Rattle.quick.proofs.marked.Tie as tie
 
 returns : tie.Need-returns
 unfolding marked
