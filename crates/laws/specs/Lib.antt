@@ -5,6 +5,7 @@ pub mod Bytes
 pub mod Determined
 pub mod First
 pub mod Little
+pub mod Rest
 pub mod Sets
 pub mod Tests
 pub mod Text

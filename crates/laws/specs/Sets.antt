@@ -5,8 +5,9 @@ use native.Mathlib.Nat.{add-suc, suc-add, add-zero, le-refl}
 use mathlib.Core.Path.{_≡_, refl, _∙_, ap, sym}
 use mathlib.Core.List.{List, [], _∷_, _++_, append-nil, append-assoc}
 use lib.ListN.{length, take, drop, set, length-set, length-drop, drop-of-length-le}
-use lib.Seq.{sets, sets-eq, set-out, take-all, take-length, drop-drop}
+use lib.Seq.{sets, sets-eq, set-out, take-length, drop-drop}
 use borrow.Rule.Slice.PartMut.{midOf, putMid}
+use Rattle.laws.specs.Rest.{rest}
 
 -- the first list, and then the second behind it
 pub sets-append : (a b l : List ℕ) (i : ℕ) → sets l i (a ++ b) ≡ sets (sets l i a) (i + length a) b
@@ -28,4 +29,4 @@ sets-part (x ∷ a) l i (suc n) e = sets-part a (set l i x) (suc i) n (suc-add i
 pub sets-copied : (l v ys : List ℕ) (i : ℕ) → i + length v ≤ length l → ys ≡ take (length v) v ++ drop (length v) (midOf i (length l - i) l) → putMid i (length l - i) l ys ≡ sets l i v
 sets-copied l v ys i h e =
     let k : length (drop i l) ≤ length l - i = rw (length-drop i l) (le-refl (length l - i)) in
-    rw (e, take-length v, take-all (length l - i) (drop i l) k, drop-of-length-le (drop i l) k, append-nil, drop-drop (length v) i l, sets-eq v l i h, append-assoc)
+    rw (e, take-length v, rest l i, drop-of-length-le (drop i l) k, append-nil, drop-drop (length v) i l, sets-eq v l i h, append-assoc)

@@ -15,6 +15,7 @@ use Rattle.record.specs.declared.Record.{Record}
 use Rattle.grammar.specs.Kind.{NONE, LIST, TOKEN}
 use Rattle.grammar.specs.Shape.{Class, Shape, said, slot, commas, row, given, _·_}
 use Rattle.grammar.specs.Grammar.{run, maybe}
+use Rattle.laws.specs.Rest.{rest}
 use Rattle.laws.specs.Text.{ascii}
 use Rattle.record.specs.Laws.{nothing as blank}
 use Rattle.tokens.specs.Corners.{id}
@@ -34,7 +35,7 @@ module _ (x : List ℕ) (a n : ℕ) where
   part-none h = rw (drop-of-length-le x {i = a} (omega arith)) (sym (take-nil n))
 
   pub part-rest : length x - a < n → take (length x - a) (drop a x) ≡ take n (drop a x)
-  part-rest h = take-all (length x - a) (drop a x) (simp length-drop (omega arith)) ∙ sym (take-all n (drop a x) (simp length-drop (omega arith)))
+  part-rest h = rest x a ∙ sym (take-all n (drop a x) (simp length-drop (omega arith)))
 
   pub part-whole : take (a + n - a) (drop a x) ≡ take n (drop a x)
   part-whole = rw add-sub-cancel-left

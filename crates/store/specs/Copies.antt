@@ -9,6 +9,7 @@ use lib.Dec.{leb}
 use lib.ListN.{length, take, drop, set, getD, length-drop, take-append-drop, drop-of-length-le}
 use lib.Seq.{sets, set-set, set-comm, take-all, take-add, take-length, length-take-le}
 use borrow.Author.Tests.{leb-true, leb-false}
+use Rattle.laws.specs.Rest.{rest}
 use Rattle.laws.specs.Sets.{sets-append, sets-part}
 
 -- a byte before the others may be stored after them
@@ -42,13 +43,6 @@ overlapped l v at k w h m =
     ∙ ap (λ (n : ℕ). sets (sets l at a) (at + n) (c ++ d)) (sym size)
     ∙ sym (sets-append a (c ++ d) l at)
     ∙ ap (λ (x : List ℕ). sets l at x) all
-
--- what is lent of v from k on
-rest : (v : List ℕ) (k : ℕ) → take (length v - k) (drop k v) ≡ drop k v
-rest v k = take-all (length v - k) (drop k v) (omega (arith, length-drop k v))
-
-pub length-rest : (v : List ℕ) (k : ℕ) → length (take (length v - k) (drop k v)) ≡ length v - k
-length-rest v k = ap length (rest v k) ∙ length-drop k v
 
 -- where the first i bytes are stored, the next w
 pub next : (l v : List ℕ) (at i w : ℕ) → i ≤ length v

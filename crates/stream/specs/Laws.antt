@@ -1,12 +1,12 @@
 -- Laws of the sink: to pour one list and then another is to pour both joined, and what each way through the append core comes to.
-use Prim.Native.Nat.{ℕ, _+_, _-_, _≤_, _<_}
+use Prim.Native.Nat.{ℕ, _+_, _≤_, _<_}
 use native.Mathlib.Omega.{arith}
 use native.Mathlib.Nat.{suc-ne-zero}
 use mathlib.Core.Path.{_≡_, refl, _∙_, ap, sym}
 use mathlib.Core.List.{List, [], _∷_, _++_, append-assoc}
 use mathlib.Core.Bool.{Bool, true, false, not, _||_}
-use lib.ListN.{length, take, drop, length-append}
-use lib.Seq.{sets, length-sets, take-all}
+use lib.ListN.{length, length-append}
+use lib.Seq.{sets, length-sets}
 use lib.Dec.{leb}
 use borrow.Author.Tests.{eq-eqb, ne-eqb, leb-true, leb-false}
 use Rattle.laws.specs.Sets.{sets-append, sets-past}
@@ -149,10 +149,7 @@ step-other st t u r k w v h g e p q =
     rw (ne-eqb k TK-BLOB e, q, u′, the-bit (pour st (gap s k ++ w)) b, then st (gap s k ++ w) (written v) b h, append-assoc)
     (again (pour st (gap s k ++ (w ++ written v))) b (valuedBit b v))
 
--- all of a row of bytes is the row; and what holds of a token's bytes taken whole holds of them
-pub whole : (v : List ℕ) → take (length v - 0) (drop 0 v) ≡ v
-whole v = take-all (length v - 0) v (omega arith)
-
+-- what holds of a token's bytes taken whole holds of them
 pub taken-whole : (r st : State) (k : ℕ) (has : Bool) (w v w′ v′ : List ℕ) → w′ ≡ w → v′ ≡ v → r ≡ step st k w′ (given has v′) → r ≡ step st k w (given has v)
 taken-whole r st k has w v w′ v′ e f p = p ∙ ap (λ x. step st k x (given has v′)) e ∙ ap (λ x. step st k w (given has x)) f
 

@@ -7,15 +7,13 @@ use lib.Seq.{sets}
 use Rattle.laws.specs.Text.{ascii}
 use Rattle.stream.specs.Stream.{Value, none, some, added, left}
 use Rattle.stream.specs.declared.Sink.{Sink}
+pub use Rattle.store.specs.Laid.{most}
 
 -- a sink and the bytes of the output
 abbrev pub State : Type 0
 State = Sink × List ℕ
 
 -- no count goes past the largest number of the machine, and no output is that long
-abbrev pub most : ℕ
-most = 0xffff_ffff_ffff_ffff
-
 unfoldable pub count : ℕ → ℕ → ℕ
 count at n = min (at + n) most
 

@@ -7,11 +7,12 @@ use mathlib.Core.Bool.{true}
 use native.Mathlib.Omega.{arith}
 use lib.ListN.{length, take, drop, length-drop}
 use lib.Seq.{take-add}
+use Rattle.laws.specs.Rest.{rest, left-of}
 use Rattle.utf8.specs.Rfc3629.{Text, Longest}
 use Rattle.utf8.specs.Scan.{width}
 use Rattle.utf8.specs.Characters.{width-none, width-starts}
 use Rattle.utf8.specs.Laws.{text-append, text-char, longest-here}
-use Rattle.utf8.specs.Plain.{allPlain, Goes, rest, plain-text}
+use Rattle.utf8.specs.Plain.{allPlain, Goes, plain-text}
 
 -- by the length of the character that begins the row
 pub goes-width : (s : List ℕ) (n : ℕ) → n ≡ width s → Goes s n
@@ -28,7 +29,7 @@ goes-far s n m g h l p =
 
 module _ (s : List ℕ) (i : ℕ) (below : i < length s) where
   pub some-left : 0 < length (take (length s - i) (drop i s))
-  some-left = rw (rest s i, length-drop i s) (omega arith)
+  some-left = left-of s i 1 (omega arith)
 
   module _ (text : Text (take i s)) (n : ℕ) (found : Goes (take (length s - i) (drop i s)) n) where
     here : Goes (drop i s) n

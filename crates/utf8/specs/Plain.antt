@@ -9,6 +9,7 @@ use lib.Dec.{ltb}
 use lib.ListN.{length, take, drop, getD, length-drop, take-append-drop}
 use lib.Seq.{take-all, take-take, take-add}
 use borrow.Author.Tests.{ltb-true}
+use Rattle.laws.specs.Rest.{rest, length-rest}
 use Rattle.laws.specs.Tests.{and-left, and-right, and-both, as-one}
 use Rattle.utf8.specs.Rfc3629.{Text, none, more, one}
 use Rattle.utf8.specs.Characters.{NoChar}
@@ -48,14 +49,6 @@ plain-take k s t = and-left (allPlain (take k s)) (allPlain (drop k s)) (sym (pl
 
 pub plain-drop : (k : ℕ) (s : List ℕ) → allPlain s ≡ true → allPlain (drop k s) ≡ true
 plain-drop k s t = and-right (allPlain (take k s)) (allPlain (drop k s)) (sym (plain-split k s) ∙ t)
-
--- a part that is lent up to the end is what is left
-pub rest : (s : List ℕ) (k : ℕ) → take (length s - k) (drop k s) ≡ drop k s
-rest s k = take-all (length s - k) (drop k s) (omega (arith, length-drop k s))
-
--- w bytes behind i
-pub left-of : (s : List ℕ) (i w : ℕ) → w ≤ length s - i → w ≤ length (take (length s - i) (drop i s))
-left-of s i w h = rw (rest s i, length-drop i s) h
 
 -- ---- two tests, the second in what is left from a place on
 
@@ -101,7 +94,7 @@ reached s i k w b h l e q = overlap s i k w true b (omega (arith, h .within)) e 
 pub behind : (s : List ℕ) (i j v w : ℕ) → Stops v s i → Stops w (take (length s - i) (drop i s)) j
     → (i + j ≤ length s) × (allPlain (take (i + j) s) ≡ true)
 behind s i j v w g h = (
-  let fit : j ≤ length s - i = rw (rest s i, length-drop i s) at (h .within) in omega (arith, g .within),
+  let fit : j ≤ length s - i = rw (length-rest s i) at (h .within) in omega (arith, g .within),
   sym (both s i j true true (sym (g .plain)) (sym (h .plain))),
 )
 

@@ -1,11 +1,12 @@
 -- Laws of append across the boundary.
-use Prim.Native.Nat.{ℕ, _+_, _-_, _*_, _≤_}
+use Prim.Native.Nat.{ℕ, _+_, _-_, _*_}
 use native.Mathlib.Omega.{arith}
 use mathlib.Core.Path.{_≡_, refl, _∙_, ap, sym}
 use mathlib.Core.List.{List, [], _∷_, _++_, append-nil}
 use mathlib.Core.Bool.{Bool, true, false, not}
 use borrow.Author.Tests.{eqb-true, not-true, not-false}
 use Rattle.laws.specs.Little.{fromLittle}
+use Rattle.laws.specs.Rest.{rest}
 use Rattle.laws.specs.Tests.{and-left}
 use Rattle.append.specs.Laws as append
 use lib.Dec.{leb, eqb}
@@ -20,12 +21,6 @@ use Rattle.wire.specs.Wire.{wellFormed, unpacked, packed, repacked, Done
 -- the count of nine bytes
 abbrev byteOf : List ℕ → ℕ → ℕ
 byteOf r i = getD r i 0
-
-rest : (r : List ℕ) (k : ℕ) → take (length r - k) (drop k r) ≡ drop k r
-rest r k = take-all (length r - k) (drop k r) (omega (arith, length-drop k r))
-
-pub left-of : (r : List ℕ) (k w : ℕ) → k + w ≤ length r → w ≤ length (take (length r - k) (drop k r))
-left-of r k w h = rw (rest r k, length-drop k r) (omega arith)
 
 -- two halves are a whole
 halves : (s : List ℕ) → fromLittle (take 4 s) + 0x1_0000_0000 * fromLittle (take 4 (drop 4 s)) ≡ fromLittle (take 8 s)

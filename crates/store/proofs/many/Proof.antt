@@ -5,7 +5,8 @@ use native.Mathlib.Omega.{arith}
 use mathlib.Core.Path.{_≡_, refl, _∙_, ap}
 use lib.ListN.{length, take}
 use lib.Seq.{sets, length-sets}
-use Rattle.store.specs.Copies.{length-rest, next, ends}
+use Rattle.laws.specs.Rest.{length-rest}
+use Rattle.store.specs.Copies.{next, ends}
 use borrow.Author.Needs.{needs}
 use Rattle.store.proofs.many.Statement.{statement}
 use Rattle.store.proofs.many.Tie as tie

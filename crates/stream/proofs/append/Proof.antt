@@ -3,8 +3,9 @@ use Prim.Native.Nat.{_≤_}
 use denote.Ref.{now}
 use native.Mathlib.Omega.{arith}
 use lib.ListN.{length}
+use Rattle.laws.specs.Rest.{rest}
 use Rattle.stream.specs.Sink.{most}
-use Rattle.stream.specs.Laws.{step-blob, step-other, whole, taken-whole}
+use Rattle.stream.specs.Laws.{step-blob, step-other, taken-whole}
 use borrow.Author.Needs.{needs}
 use Rattle.stream.proofs.append.Statement.{statement}
 use Rattle.stream.proofs.append.Tie as tie
@@ -17,7 +18,7 @@ returns c =
     let at-out = at-gap .before .before .before .before .before .before in
     let args = at-out .before .args in
     let held : length (now (args .out)) ≤ most = omega (arith, at-out .before .good .0) in
-    taken-whole _ _ _ (args .has) _ (now (args .value)) _ _ (whole (now (args .word))) (whole (now (args .value)))
+    taken-whole _ _ _ (args .has) _ (now (args .value)) _ _ (rest (now (args .word)) 0) (rest (now (args .value)) 0)
     (step-blob _ _ _ _ _ _ held (at-gap .gap .ensures) (at-if1 .if1 .taken) (at-blob .blob .ensures))
 
 -- the pieces are the last three arguments: the space, the spelling and the value
@@ -30,7 +31,7 @@ returns-2 c =
     let at-out = at-gap .before .before .before .before .before .before in
     let args = at-out .before .args in
     let held : length (now (args .out)) ≤ most = omega (arith, at-out .before .good .0) in
-    taken-whole _ _ _ (args .has) _ (now (args .value)) _ _ (whole (now (args .word))) (whole (now (args .value)))
+    taken-whole _ _ _ (args .has) _ (now (args .value)) _ _ (rest (now (args .word)) 0) (rest (now (args .value)) 0)
     (step-other _ _ _ _ _ _ _ held (at-gap .gap .ensures) (at-if1 .if1 .left) (at-spell .spell .ensures) (at-valued .valued .ensures))
 
 pub append-spec : {M : Type 1} → statement M

@@ -8,7 +8,8 @@ use native.Mathlib.Omega.{arith}
 use lib.ListN.{length, take}
 use borrow.Author.Needs.{needs}
 use borrow.Author.Tests.{not-true, not-false}
-use Rattle.utf8.specs.Plain.{allPlain, none-plain, left-of, both, stop, stop-short}
+use Rattle.laws.specs.Rest.{left-of}
+use Rattle.utf8.specs.Plain.{allPlain, none-plain, both, stop, stop-short}
 use Rattle.utf8.proofs.blocks.Statement.{statement}
 use Rattle.utf8.proofs.blocks.Tie as tie
 

@@ -6,9 +6,9 @@ use denote.Ref.{now}
 use native.Mathlib.Omega.{arith}
 use lib.ListN.{length, getD}
 use borrow.Author.Needs.{needs}
+use Rattle.laws.specs.Rest.{rest}
 use Rattle.utf8.specs.Scan.{counted}
 use Rattle.utf8.specs.Characters.{ones-0}
-use Rattle.utf8.specs.Plain.{rest}
 use Rattle.utf8.proofs.Turn.{goes-width, goes-far}
 use Rattle.utf8.proofs.Ways.{by-ones}
 use Rattle.utf8.proofs.next_len.Statement.{statement}

@@ -1,6 +1,7 @@
 -- `wire::unpack` meets its contract: the count is the number of the eight bytes behind the first.
 use native.Mathlib.Omega.{arith}
-use Rattle.wire.specs.Laws.{left-of, unpacks}
+use Rattle.laws.specs.Rest.{left-of}
+use Rattle.wire.specs.Laws.{unpacks}
 use borrow.Author.Needs.{needs}
 use Rattle.wire.proofs.unpack.Statement.{statement}
 use Rattle.wire.proofs.unpack.Tie as tie

@@ -1,6 +1,7 @@
 -- `wire::whole` meets its contract: two halves are a whole.
 use native.Mathlib.Omega.{arith}
-use Rattle.wire.specs.Laws.{left-of, is-whole}
+use Rattle.laws.specs.Rest.{left-of}
+use Rattle.wire.specs.Laws.{is-whole}
 use borrow.Author.Needs.{needs}
 use Rattle.wire.proofs.whole.Statement.{statement}
 use Rattle.wire.proofs.whole.Tie as tie
