@@ -81,6 +81,7 @@ pub fn value_alone(rec: Stream, out: &mut [u8], token: u16, value: &[u8]) -> Qui
     ensures { λ r. ⌜ Comes (valueMay rec (length (now (out .entry))) token (now (value .entry))) rec (now (out .entry)) (news rec token (now (value .entry))) (leaves (rec .spaced) (tokenOf token (now (value .entry)))) r (now (out .exit)) ⌝ }
 {
     let n = value.len();
+    let at = rec.count;
     if n == 0 {
         return Quick::Not;
     }
@@ -93,7 +94,7 @@ pub fn value_alone(rec: Stream, out: &mut [u8], token: u16, value: &[u8]) -> Qui
     if LONGEST < n {
         return Quick::Not;
     }
-    let l = store::lay_all(out, rec.count, rec.spaced, value);
+    let l = store::lay_all(out, at, rec.spaced, value);
     match l {
         Laid::Not => Quick::Not,
         Laid::To(count) => Quick::Done(Stream {
