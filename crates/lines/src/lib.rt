@@ -1,6 +1,10 @@
 // What the replaying programs share: reading a case from standard input, and printing a line for it.
+ghost use mathlib.Core.Path.{_≡_};
+ghost use mathlib.Core.Bool.{false};
+ghost use mathlib.Core.List.{[], _∷_};
 ghost use Prim.Native.Nat.{_+_, _*_, _≤_, _<_};
 ghost use lib.ListN.{length};
+ghost use Rattle.laws.specs.Little.{fromLittle};
 ghost use Rattle.io.specs.Counts.{Counts};
 use libc::STDIN_FILENO;
 use libc::STDOUT_FILENO;
@@ -17,7 +21,9 @@ const BYTES: usize = 65536;
 const HEX: usize = 2 * BYTES;
 
 // The number that four bytes hold, the lowest first.
-pub fn word(a: u8, b: u8, c: u8, d: u8) -> usize {
+pub fn word(a: u8, b: u8, c: u8, d: u8) -> usize
+    ensures { λ r. ⌜ r ≡ fromLittle (a ∷ b ∷ c ∷ d ∷ []) ⌝ }
+{
     a as usize + 256 * (b as usize) + 65536 * (c as usize) + 16777216 * (d as usize)
 }
 
@@ -33,7 +39,9 @@ pub fn print(bytes: &[u8]) -> bool {
 }
 
 // Prints why the program stops, and answers not to go on.
-pub fn stop(why: &[u8]) -> bool {
+pub fn stop(why: &[u8]) -> bool
+    ensures { λ r. ⌜ r ≡ false ⌝ }
+{
     io::write_all(STDOUT_FILENO, why);
     false
 }
