@@ -212,13 +212,13 @@ module _ (n : ℕ) (h : n < classesHeld) where
     list-held = rw (eq-eqb k LIST is-list) (same-held (elementOf n) element-held m)
 
 -- ---- the rule and the slots of each kind
-sameAll : List Class → List Class → Bool
+unfoldable pub sameAll : List Class → List Class → Bool
 sameAll [] [] = true
 sameAll [] (d ∷ ds) = false
 sameAll (c ∷ cs) [] = false
 sameAll (c ∷ cs) (d ∷ ds) = sameClass c d && sameAll cs ds
 
-same-all : (cs ds : List Class) → sameAll cs ds ≡ true → cs ≡ ds
+pub same-all : (cs ds : List Class) → sameAll cs ds ≡ true → cs ≡ ds
 unfolding sameAll
 same-all [] [] h = refl
 same-all [] (d ∷ ds) h = absurd (false≢true h)

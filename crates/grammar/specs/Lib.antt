@@ -6,3 +6,4 @@ pub mod Slots
 pub mod Classes
 pub mod Packed
 pub mod Laws
+pub mod Entries
