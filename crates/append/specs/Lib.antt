@@ -1,3 +1,4 @@
 pub mod Append
 pub mod Steps
 pub mod Laws
+pub mod Lists

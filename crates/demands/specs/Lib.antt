@@ -1,0 +1,3 @@
+pub mod Lends
+pub mod Demands
+pub mod Between
