@@ -1,6 +1,6 @@
 -- What holds of a tree that the check admits: the depth of 64 that its tokens are defined with is never used up, the walk reads the whole of
 -- it and passes over no record, and its tokens are those of the definition without a depth. `Reads` has the argument.
-use Prim.Native.Nat.{ℕ, zero, suc, _+_, _-_, _≤_}
+use Prim.Native.Nat.{ℕ, suc, _+_, _-_, _≤_}
 use native.Mathlib.Omega.{arith}
 use mathlib.Core.Path.{_≡_, refl, _∙_, ap, sym}
 use mathlib.Core.List.{[]}
@@ -10,8 +10,8 @@ use Rattle.record.specs.Record.{count}
 use Rattle.grammar.specs.Grammar.{shape}
 use Rattle.tree.specs.Check.{Checks}
 use Rattle.tree.specs.declared.Answer.the-variants.{Admitted}
-use Rattle.tokens.specs.Tokens.{Source, Out, at, behind, means, node, deepest, whole, tokensOf, textOf}
-use Rattle.admitted.specs.Watched.{watched, watchedWhole, levels, passed, wholeBy, watched-passed, whole-passed}
+use Rattle.tokens.specs.Tokens.{Source, Out, at, behind, node, deepest, whole, tokensOf, textOf}
+use Rattle.admitted.specs.Watched.{watchedWhole, levels, passed, wholeBy, watched-passed, whole-passed}
 use Rattle.admitted.specs.Same.{Same}
 use Rattle.admitted.specs.Fills.{Fills, root-filled, at-end}
 use Rattle.admitted.specs.Reads.{Rises, whole-same}

@@ -5,7 +5,7 @@ use Prim.Native.Nat.{ℕ, zero, suc, _+_, _<_}
 use native.Mathlib.Omega.{arith}
 use mathlib.Core.Path.{_≡_, refl}
 use mathlib.Core.List.{List, [], _∷_, _++_, map, map-append, append-assoc}
-use mathlib.Core.Bool.{Bool, true, false, cond, _&&_, false≢true}
+use mathlib.Core.Bool.{Bool, true, false, false≢true}
 use lib.Dec.{eqb}
 use lib.ListN.{length, replicate}
 use borrow.Author.Tests.{eqb-true}
@@ -14,15 +14,15 @@ use Rattle.stream.specs.Stream.{Token}
 use Rattle.spelling.specs.Token.{TK-LP, TK-RP}
 use Rattle.record.specs.declared.Record.{Record}
 use Rattle.grammar.specs.Kind.{NONE, LIST, TOKEN, RUN, REPLACE}
-use Rattle.grammar.specs.Shape.{Class, one, list, small, Shape, nothing, token, ident, word, said, line, when, is, slot, each, commas, row, lines, tuples, given, filled, replacing, decimal, brackets, quoted, rowid, source, later, _·_}
-use Rattle.grammar.specs.Grammar.{run, text, number, maybe, root, rootKinds, shape}
+use Rattle.grammar.specs.Shape.{Class, one, list, Shape, nothing, token, ident, word, said, line, when, is, slot, each, commas, row, lines, tuples, given, filled, replacing, decimal, brackets, quoted, rowid, source, later, _·_}
+use Rattle.grammar.specs.Grammar.{run, text, maybe, root, rootKinds, shape}
 use Rattle.grammar.specs.Slots.{slotsOf, allowed, elements}
 use Rattle.grammar.specs.Laws.{sameAll, same-all}
 use Rattle.tree.specs.Check.{Place, place, holds, fits}
 use Rattle.tree.specs.Check.{deepest as nesting}
 use Rattle.tree.specs.Steps.{childless}
 use Rattle.tokens.specs.Corners.{bare, valued, newline}
-use Rattle.tokens.specs.Tokens.{Source, Out, at, behind, tokenOf, flagged, say, of, then, rows, listed, placed, ofKind, comma, bracketed, checked, means, deepest}
+use Rattle.tokens.specs.Tokens.{Source, Out, at, behind, tokenOf, flagged, say, of, then, listed, placed, ofKind, comma, bracketed, checked, means, deepest}
 use Rattle.admitted.specs.Watched.{inPlace, leftOut, tokenPlace, child, items, behindRun, watched, watchedWhole}
 use Rattle.admitted.specs.Same.{Same, says, ofs, either, thens, laters, rows-same}
 use Rattle.admitted.specs.Tame.{slots, tame, tamed, plain, no-list, none-held, barrenPlace}

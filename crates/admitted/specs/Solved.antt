@@ -1,7 +1,7 @@
 -- The tokens of a tree without a depth: what each record writes is what its shape makes of what the records below it write.
 -- A record's children stand behind it, so what it writes hangs on later records alone: by induction from the end of the tree on, no two
 -- functions satisfy that, and with as many levels as there are records one does. This holds of every tree, admitted or not.
-use Prim.Native.Nat.{ℕ, zero, suc, _+_, _≤_, _<_}
+use Prim.Native.Nat.{ℕ, zero, suc, _+_, _≤_}
 use native.Mathlib.Omega.{arith}
 use mathlib.Core.Path.{_≡_, refl, _∙_, sym}
 use mathlib.Core.List.{List, [], _∷_}

@@ -2,7 +2,7 @@
 -- which `u` says, and of a record below so many levels, which `f` says. `means` passes over the one, and `node` writes nothing of the other.
 -- So where all u and f come to the same, neither was asked for.
 use Prim.Native.Nat.{ℕ, zero, suc}
-use mathlib.Core.Path.{_≡_, refl, _∙_, ap, ap₂, sym, fun-ext}
+use mathlib.Core.Path.{_≡_, refl, _∙_, ap, ap₂, fun-ext}
 use mathlib.Core.List.{List, [], _∷_, _++_, append-nil}
 use mathlib.Core.Bool.{Bool, true, false, cond, _&&_, _||_}
 use lib.Dec.{eqb, ltb}

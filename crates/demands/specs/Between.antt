@@ -3,7 +3,7 @@
 -- White_Space, else false. A part is a longest run of false, so it is a row of whole characters.
 use Prim.Native.Nat.{ℕ, zero, suc, _+_, _-_, _≤_, _<_}
 use native.Mathlib.Omega.{arith}
-use mathlib.Core.Path.{_≡_, refl, _∙_, ap, ap₂, sym}
+use mathlib.Core.Path.{_≡_, refl, ap, ap₂, sym}
 use mathlib.Core.List.{List, [], _∷_, _++_, append-assoc, List·Memᴰ, List·Memᴰ·head, List·Memᴰ·tail}
 use mathlib.Core.Bool.{Bool, true, false, cond, _&&_, false≢true}
 use lib.Dec.{eqb, ltb}
@@ -141,13 +141,13 @@ runs-false (suc k) i n ms =
 
 -- ---- the parts
 -- a span that begins and ends between characters: what stands before it, and what stands before its end, is a text
-pub record Between (s : List ℕ) (p : Span) : Type 0 where
+pub record CutBetween (s : List ℕ) (p : Span) : Type 0 where
   pub start : Text (take (p .start) s)
   pub end : Text (take (p .start + p .len) s)
 
 data Each (s : List ℕ) : List Span → Type 0 where
   no-more : Each s []
-  also : {p : Span} {ps : List Span} → Between s p → Each s ps → Each s (p ∷ ps)
+  also : {p : Span} {ps : List Span} → CutBetween s p → Each s ps → Each s (p ∷ ps)
 
 each-append : {s : List ℕ} {ps qs : List Span} → Each s ps → Each s qs → Each s (ps ++ qs)
 each-append no-more f = f
@@ -182,15 +182,15 @@ unfolding parts
 all-between t = along t none 0 (omega arith) none
 
 -- each part of a text begins and ends between characters
-pub part-between : {s : List ℕ} {p : Span} → Text s → List·Memᴰ p (parts s) → Between s p
+pub part-between : {s : List ℕ} {p : Span} → Text s → List·Memᴰ p (parts s) → CutBetween s p
 part-between {s} {p} t m = of-each (all-between t) m
   where
-    of-each : {ps : List Span} → Each s ps → List·Memᴰ p ps → Between s p
+    of-each : {ps : List Span} → Each s ps → List·Memᴰ p ps → CutBetween s p
     of-each (also b e) (List·Memᴰ·head i) = rw i b
     of-each (also b e) (List·Memᴰ·tail k) = of-each e k
 
 -- so it is a text
-pub between-text : {s : List ℕ} {p : Span} → Between s p → Text (take (p .len) (drop (p .start) s))
+pub between-text : {s : List ℕ} {p : Span} → CutBetween s p → Text (take (p .len) (drop (p .start) s))
 between-text {s} {p} b = text-rest (b .start) (take (p .len) (drop (p .start) s)) (rw take-add at (b .end))
 
 -- and the second part is, which white::split gives: where there is none, it is empty
@@ -198,7 +198,7 @@ pub second-text : {s : List ℕ} → Text s → Text (take (splitOf s .len) (dro
 unfolding splitOf
 second-text {s} t = between-text (of-second (all-between t))
   where
-    of-second : {ps : List Span} → Each s ps → Between s (second ps)
+    of-second : {ps : List Span} → Each s ps → CutBetween s (second ps)
     of-second no-more = record { start = none; end = none }
     of-second (also b no-more) = record { start = none; end = none }
     of-second (also b (also d e)) = d

@@ -1,18 +1,29 @@
 -- What stands in the engine's buffer: after appends from a fresh record, and after render. The buffer begins with the text of the tokens
 -- (append/Lists, wire/Lists, render/Render), and of texts S1 to S12 (stream/Cases) and demand 3 (reading/Demand3) are proved.
 use Prim.Native.Nat.{ℕ, _+_, _^_, _≤_, _<_}
+use native.Mathlib.Omega.{arith}
 use native.Mathlib.Nat.{zero-add}
-use mathlib.Core.Path.{_≡_, refl, _∙_, sym}
+use mathlib.Core.Path.{_≡_, refl, _∙_, ap, sym}
 use mathlib.Core.List.{List, [], _∷_, map, List·Memᴰ, List·Memᴰ·head, List·Memᴰ·tail}
-use mathlib.Core.Bool.{true}
+use mathlib.Core.Bool.{Bool, true, false, cond, false≢true}
+use lib.Dec.{ltb}
 use lib.ListN.{length, take, drop, replicate}
-use lib.Seq.{take-at}
-use Rattle.stream.specs.Stream.{Token, text}
+use lib.Seq.{take-at, take-append-seam}
+use borrow.Author.Tests.{eq-eqb}
+use Rattle.stream.specs.Stream.{text}
 use Rattle.stream.specs.Cases.{Case, cases, cases-hold}
 use Rattle.append.specs.declared.Stream.{Stream}
 use Rattle.append.specs.Lists.{Lent, tokensOf, AppendsAll, appended, all-succeed}
 use Rattle.wire.specs.Wire.{unpacked}
 use Rattle.wire.specs.Lists.{CrossesAll, all-append}
+use Rattle.tree.specs.Check as tree
+use Rattle.tree.specs.declared.Answer.{Answer}
+use Rattle.tokens.specs.Tokens.{tokensOf as treeTokens}
+use Rattle.pen.specs.Pen.{source}
+use Rattle.render.specs.Render.{textFrom, refuses, rendered, outputAfter, Renders, numberOf, placeOf}
+use Rattle.render.specs.declared.Outcome.{Outcome}
+use Rattle.render.specs.declared.Outcome.the-variants.{Done, Refused, NoRoom}
+use Rattle.kinyandoma.specs.Trees as Call
 use Rattle.reading.specs.Reading.{Lexed, Cuts}
 use Rattle.reading.specs.Readable.{Readable}
 use Rattle.reading.specs.Demand3.{spellings, gives-back, never-shared, tree-gives-back}
@@ -81,3 +92,45 @@ module _ {out : List ℕ} {ls : List Lent} {r′ out′ : List ℕ} (all : Cross
 
   pub crossed-case : {c : Case} → List·Memᴰ c cases → tokensOf ls ≡ c .0 → take (unpacked r′ .count) out′ ≡ c .1
   crossed-case m e = appended-case fresh-bytes (all-append all fits) m e
+
+-- ---- render, where its number is 0
+module _ {t x out : List ℕ} {o : Outcome} {out′ : List ℕ} (renders : Renders t x out o out′) (success : numberOf o ≡ 0) where
+  outcome-is : o ≡ Done (length (textFrom t x))
+  unfolding rendered refuses
+  outcome-is = renders .answers ∙ by (refuses a) (ltb (length out) m) refl (ap numberOf (sym (renders .answers)) ∙ success)
+    where
+      a : Answer
+      a = renders .answer
+
+      m : ℕ
+      m = length (textFrom t x)
+
+      by : (b c : Bool) → refuses a ≡ b → numberOf (cond b (Refused a) (cond c (NoRoom m) (Done m))) ≡ 0 → cond b (Refused a) (cond c (NoRoom m) (Done m)) ≡ Done m
+      by true c q z = absurd (false≢true (rw (eq-eqb (tree.numberOf a) 0 z) at q))
+      by false true q z = absurd (omega arith)
+      by false false q z = refl
+
+  -- so many bytes as it says are the text of the tree
+  pub rendered-text : take (placeOf o) out′ ≡ textFrom t x
+  unfolding outputAfter
+  rendered-text = rw (renders .writes, outcome-is) (take-append-seam (textFrom t x) (drop (length (textFrom t x)) out))
+
+  -- demand 3: if its tokens are readable, the bytes are cut back into their lexemes
+  pub rendered-reads-back : {lexemes : List Lexed} → Readable (treeTokens (source t x)) lexemes → Cuts (take (placeOf o) out′) lexemes []
+  rendered-reads-back {lexemes} r = rw rendered-text (tree-gives-back (source t x) lexemes r)
+
+-- the same of kinyandoma_render, where its answer is below 2^32
+module _ {t x out : List ℕ} {answer : ℕ} {out′ : List ℕ} (c : Call.Renders t x out answer out′) (low : answer < 2 ^ 32) where
+  success : numberOf (c .outcome) ≡ 0
+  unfolding Call.code
+  success = omega (arith, c .answers)
+
+  answer-is : answer ≡ placeOf (c .outcome)
+  unfolding Call.code
+  answer-is = omega (arith, c .answers, success)
+
+  pub call-text : take answer out′ ≡ textFrom t x
+  call-text = rw answer-is (rendered-text (c .renders) success)
+
+  pub call-reads-back : {lexemes : List Lexed} → Readable (treeTokens (source t x)) lexemes → Cuts (take answer out′) lexemes []
+  call-reads-back r = rw answer-is (rendered-reads-back (c .renders) success r)

@@ -1,7 +1,7 @@
 -- The tokens of S1 to S12 can be lent to append, and no refusal but 8 fits any of them: one test that is computed over all of them.
 use Prim.Native.Nat.{ℕ, _+_, _%_, _<_}
 use native.Mathlib.Omega.{arith}
-use mathlib.Core.Path.{_≡_, refl, _∙_, ap, ap₂}
+use mathlib.Core.Path.{_≡_, refl, ap₂}
 use mathlib.Core.List.{List, [], _∷_, map, List·Memᴰ, List·Memᴰ·head, List·Memᴰ·tail}
 use mathlib.Core.Bool.{Bool, true, _&&_}
 use lib.Dec.{ltb, leb}

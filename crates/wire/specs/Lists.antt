@@ -1,6 +1,6 @@
 -- Tokens appended one after another as the engine calls it: a list of calls that all answer below 2^32, which is number 0, is a list of appends to the record
 -- that the bytes stand for. What a call leaves is read back by the next, since a count that is within an output fits eight bytes.
-use Prim.Native.Nat.{ℕ, zero, suc, _+_, _*_, _/_, _%_, _^_, _≤_, _<_}
+use Prim.Native.Nat.{ℕ, zero, suc, _+_, _/_, _^_, _≤_, _<_}
 use native.Mathlib.Omega.{arith}
 use native.Mathlib.Nat.{pow-zero, pow-succ'}
 use mathlib.Core.Path.{_≡_, refl, _∙_, ap, sym}
@@ -11,7 +11,7 @@ use Rattle.laws.specs.Little.{little, fromLittle}
 use Rattle.append.specs.declared.Stream.{Stream}
 use Rattle.append.specs.declared.Answer.{Answer}
 use Rattle.append.specs.declared.Answer.the-variants.{Added}
-use Rattle.append.specs.Append.{Appends, tokenOf, news, number, place, code}
+use Rattle.append.specs.Append.{Appends, news, number, code}
 use Rattle.append.specs.Laws.{place-small}
 use Rattle.append.specs.Lists.{Lent, tokensOf, textFrom, AppendsAll, AllFine, all-succeed, Appended, appended, succeeds, output-length, zero-added}
 use Rattle.append.specs.Lists.{none as no-append, one as one-append}
