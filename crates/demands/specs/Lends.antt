@@ -72,9 +72,10 @@ one-back k none h =
     (rw (n, lt-leb 0x8000 k s), fine k [] h k n (λ l. absurd (omega arith)))
 one-back k (some v) h =
     let s = small k v h in
-    let n : (k + 0x8000) % 0x8000 ≡ k = omega arith in
-    let p = le-leb 0x8000 (k + 0x8000) (omega arith) in
-    (rw (n, p), fine k v h (k + 0x8000) n (λ l. p))
+    let w = lentAs k (some v) .0 in
+    let n : w % 0x8000 ≡ k = omega arith in
+    let p = le-leb 0x8000 w (omega arith) in
+    (rw (n, p), fine k v h w n (λ l. p))
 
 all-back : (ts : List Token) → allLendable ts ≡ true → (tokensOf (lent ts) ≡ ts) × AllFine (lent ts)
 unfolding allLendable
