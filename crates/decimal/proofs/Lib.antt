@@ -1,3 +1,4 @@
+pub mod Columns
 pub mod Signed
 pub mod Turns
 pub mod Whole

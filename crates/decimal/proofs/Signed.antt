@@ -5,11 +5,12 @@ use mathlib.Core.Path.{_≡_, refl, sym, _∙_}
 use mathlib.Core.Bool.{true, false, false≢true}
 use lib.IntN.{ℤ, pos, negsuc, _-ℤ_}
 use lib.Signed.{mag, ltZ}
+use lib.ListN.{length}
 use borrow.Author.Tests.{le-ltb, ltb-true}
 use mir.Syntax.{w64}
 use mir.Val.{SFits, toZ, ofZ}
 use mir.ValLaws.{toZ-ofZ}
-use Rattle.decimal.specs.Decimal.{magnitude}
+use Rattle.decimal.specs.Decimal.{magnitude, sign}
 
 abbrev pub held : ℤ → ℤ
 held z = toZ w64 (ofZ w64 z)
@@ -34,6 +35,14 @@ not-negative : (z : ℤ) → ltZ z (pos 0) ≡ false → z ≡ pos (magnitude z)
 not-negative (pos n) h = refl
 not-negative (negsuc k) h = absurd (false≢true (sym h))
 
+minus-below : (z : ℤ) → ltZ z (pos 0) ≡ true → 1 ≡ length (sign z)
+minus-below (pos n) h = absurd (not-below n h)
+minus-below (negsuc k) h = refl
+
+no-minus : (z : ℤ) → ltZ z (pos 0) ≡ false → 0 ≡ length (sign z)
+no-minus (pos n) h = refl
+no-minus (negsuc k) h = absurd (false≢true (sym h))
+
 within : (z : ℤ) → mag z < 2 ^ 63 → magnitude z ≤ 2 ^ 63
 within (pos n) h = omega arith
 within (negsuc k) h = omega arith
@@ -55,8 +64,14 @@ module _ (z : ℤ) (f : SFits w64 z) where
     pub minus-is : held (negsuc 0 -ℤ held z) ≡ pos (mag z)
     minus-is = toZ-ofZ w64 (negsuc 0 -ℤ held z) minus-fits ∙ rw (held-is, minus z below)
 
+    pub signs-below : 1 ≡ length (sign z)
+    signs-below = minus-below z below
+
     pub below-is : mag z + 1 ≡ magnitude z
     below-is = one-more z below
 
   pub above-is : ltZ (held z) (pos 0) ≡ false → held z ≡ pos (magnitude z)
   above-is h = held-is ∙ not-negative z (rw held-is at h)
+
+  pub signs-above : ltZ (held z) (pos 0) ≡ false → 0 ≡ length (sign z)
+  signs-above h = no-minus z (rw held-is at h)

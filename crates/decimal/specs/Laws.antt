@@ -2,6 +2,7 @@
 use Prim.Native.Nat.{ℕ, zero, suc, _+_, _-_, _*_, _/_, _%_, _^_, _≤_, _<_}
 use native.Mathlib.Omega.{arith}
 use native.Mathlib.Nat.{not-suc-le-zero, pow-suc, mul-assoc}
+use native.Mathlib.Numerals.{add-one}
 use mathlib.Core.Path.{_≡_, refl, sym, _∙_, ap}
 use mathlib.Core.List.{List, [], _∷_, _++_}
 use mathlib.Core.Bool.{Bool, true, false, _&&_}
@@ -118,6 +119,11 @@ length-below = by-tens (λ n. (k : ℕ) → n < 10 ^ suc k → length (natural n
         let s : n < 10 ^ suc k * 10 = rw (pow-suc 10 (suc k)) at l in
         let t = p k (omega arith) in
         omega (arith, length-more n h)
+
+-- a number is below 10 to the power of how many digits it has
+pub below-length : (n : ℕ) → n < 10 ^ length (natural n)
+below-length = by-tens (λ n. n < 10 ^ length (natural n)) (λ n h. rw (length-one n h) (omega arith))
+    (λ n h p. rw (length-more n h, add-one, pow-suc) (omega arith))
 
 pub length-decimal : (z : ℤ) → natAbs z ≤ 2 ^ 63 → length (decimal z) ≤ 20
 unfolding decimal

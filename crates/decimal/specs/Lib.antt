@@ -1,3 +1,4 @@
 pub mod Decimal
 pub mod Spells
+pub mod Powers
 pub mod Laws
