@@ -24,6 +24,7 @@ REFUSED=${REFUSED:-2000000}
 SEED=${SEED:-1}
 TREE_CASES=${TREE_CASES:-1000000}
 TREES_RENDERED=${TREES_RENDERED:-1000000}
+NUMBERS=${NUMBERS:-10000000}
 ENTRIES=${ENTRIES:-1000000}
 STREAMS=${STREAMS:-1000000}
 FUZZED=${FUZZED:-10000000}
@@ -141,9 +142,14 @@ build --package compare --features compare/selftest
 
 echo "the library against the crate:"
 rt staticlib kinyandoma
+"$oracle/no_division.sh" --planted
+"$oracle/no_division.sh" "$library/libkinyandoma.a"
 KINYANDOMA_LIB=$library build --package compare
 "$programs/compare" "$TOKENS" "$REFUSED" "$SEED"
 "$programs/compare" trees "$TREES_RENDERED" "$SEED"
+
+echo "numbers of every length and both signs, against Rust's own decimal text and the crate's:"
+"$programs/compare" numbers "$NUMBERS" "$SEED"
 
 echo "the library's calls on whatever comes, between known bytes and beside closed pages:"
 "$programs/compare" fuzz "$FUZZED" "$SEED"

@@ -1,7 +1,7 @@
 //! Plants each fault in the stand-ins and sees that the comparison finds it.
 
 use crate::trees::stand_in::{exchange, faulty_entries};
-use crate::{compare_all, fuzz, trees, Extent};
+use crate::{compare_all, fuzz, numbers, trees, Extent};
 use model::record::Record;
 use model::samples::Judged;
 use model::texts;
@@ -59,6 +59,11 @@ faults! {
         ZeroWidthSpaceIsWhite
         CommentOutsideLiteralsOnly
         OperatorQuotesDoubled;
+    NUMBERS:
+        OneSubtractionTooFew
+        PowerLeftOut
+        ZeroInFront
+        LowestOneLess;
 }
 
 const NONE: usize = usize::MAX;
@@ -67,6 +72,8 @@ static PLANTED: AtomicUsize = AtomicUsize::new(NONE);
 /// Random values besides the list, for the faults of the whole-tree calls.
 const VALUES: u64 = 2_000;
 const SEED: u64 = 1;
+/// Numbers, for each fault of their texts: the edges are more.
+const DECIMALS: u64 = 1;
 /// Calls of the fuzz run, for each fault.
 const FUZZED: u64 = 1_000_000;
 
@@ -83,9 +90,10 @@ pub fn try_all(whole: bool) -> bool {
     let append = all_found(&[STREAM, APPEND].concat(), whole, &difference_in_append);
     let in_trees = |fault| difference_in_trees(fault, &listed);
     let trees = all_found(&[STREAM, TREES].concat(), whole, &in_trees);
+    let numbers = all_found(NUMBERS, whole, &difference_in_numbers);
     let by_fuzz = [STREAM, APPEND, TREES].concat();
     let fuzzed = all_found(&by_fuzz, whole, &difference_in_fuzz);
-    append && trees && entries && fuzzed
+    append && trees && entries && numbers && fuzzed
 }
 
 /// The difference that is found with a fault, if any is.
@@ -127,6 +135,11 @@ fn difference_in_trees(fault: usize, listed: &[Judged]) -> Option<String> {
     PLANTED.store(fault, Ordering::Relaxed);
     let compared = trees::compare_with(listed, VALUES, SEED);
     compared.err().map(|difference| difference.to_string())
+}
+
+fn difference_in_numbers(fault: usize) -> Option<String> {
+    PLANTED.store(fault, Ordering::Relaxed);
+    numbers::compare(DECIMALS, SEED).err()
 }
 
 fn difference_in_fuzz(fault: usize) -> Option<String> {

@@ -7,6 +7,7 @@ mod faults;
 mod fuzz;
 mod guarded;
 mod hex;
+mod numbers;
 mod pages;
 mod readable;
 mod refusals;
@@ -24,6 +25,7 @@ use tokens::random::Random;
 
 const USAGE: &str = "usage: compare [TOKENS [REFUSED-CALLS [SEED]]]
        compare trees COUNT SEED
+       compare numbers COUNT SEED
        compare reading COUNT SEED
        compare fuzz CALLS SEED";
 const DEFAULT_CALLS: u64 = 1_000_000;
@@ -42,6 +44,7 @@ fn main() {
     try_faults(&words);
     let told = match words.first().map(String::as_str) {
         Some("trees") => compare_random(&words[1..], &trees::compare),
+        Some("numbers") => compare_random(&words[1..], &numbers::compare),
         Some("reading") => compare_random(&words[1..], &readable::compare),
         Some("fuzz") => compare_random(&words[1..], &fuzz::compare),
         _ => {

@@ -76,6 +76,8 @@ pub struct Corners {
     pub commented: fn(&str) -> bool,
     /// An operator's text between its quotes.
     pub quoted: fn(&str) -> String,
+    /// The text of a number.
+    pub decimal: fn(i64) -> String,
 }
 
 /// As the crate has them.
@@ -83,6 +85,7 @@ pub const CORNERS: Corners = Corners {
     white: is_white,
     commented: |source| source.contains("--"),
     quoted: |text| format!("'{text}'"),
+    decimal: |number| number.to_string(),
 };
 
 /// Writes a tree's tokens by the entries.
@@ -259,7 +262,8 @@ impl Interpreter<'_> {
             Shape::Decimal => {
                 let child = take(&Class::One(vec![NONE, NUMBER]), of, next)?;
                 if child.record.kind == NUMBER {
-                    self.put(Token::id(&child.record.as_number().to_string()));
+                    let decimal = (self.corners.decimal)(child.record.as_number());
+                    self.put(Token::id(&decimal));
                 }
             }
             Shape::Brackets => {

@@ -25,6 +25,8 @@ type Refusal = (u32, u32);
 
 /// The answer for a tree that faulty entries cannot write.
 const BROKEN: Refusal = (9, 0);
+/// The most digits of a number.
+const MOST_DIGITS: u32 = 19;
 /// A shift of the number above the place.
 const NUMBER_AT: u32 = 32;
 
@@ -154,7 +156,31 @@ fn corners() -> Corners {
     if planted(Fault::OperatorQuotesDoubled) {
         corners.quoted = |text| format!("'{}'", text.replace('\'', "''"));
     }
+    corners.decimal = subtracted;
     corners
+}
+
+/// The text of a number by subtraction of powers of ten, and no zero in front.
+fn subtracted(number: i64) -> String {
+    let mut text = String::from(if number < 0 { "-" } else { "" });
+    let mut rest = number.unsigned_abs();
+    let mut digits = 0;
+    rest -= u64::from(planted(Fault::LowestOneLess) && number == i64::MIN);
+    for place in (0..MOST_DIGITS).rev() {
+        let unit = 10_u64.pow(place);
+        let mut digit = b'0';
+        while unit < rest || unit == rest && !planted(Fault::OneSubtractionTooFew) {
+            rest -= unit;
+            digit += 1;
+        }
+        let in_front = planted(Fault::ZeroInFront) && place == 1;
+        let left_out = planted(Fault::PowerLeftOut) && place == 9;
+        if !left_out && (digit > b'0' || digits > 0 || place == 0 || in_front) {
+            text.push(char::from(digit));
+            digits += 1;
+        }
+    }
+    text
 }
 
 /// Each literal taken out with its quotes.
