@@ -13,7 +13,7 @@
  *   1       the tree is empty, over 65536 bytes, or not a multiple of 16;               0
  *           append: the record is malformed, or its count past the end of out
  *   2       the text or value is over 65536 bytes (place 65536; tested first),          first byte that begins no
- *           or not UTF-8                                                                valid character
+ *           or not UTF-8 and not cut off (12)                                           valid character
  *   3       wrong mark                                                                  record
  *   4       kind not allowed here, wrong child count, undefined flag, unused field      record; append: 0
  *           not zero, unknown token, number out of range
@@ -23,9 +23,14 @@
  *                                                                                       left-over index
  *   8       out is shorter than needed                                                  length needed;
  *                                                                                       append: bytes this token adds
+ *   12      the text or value is cut off: it ends in the middle of a character          first byte of that character
  *
- * The first that fits is answered. For a tree: 1, 2, then the records by index, and at each 3, 4, 5, 6; then 7; then 8.
- * For append: 1, 4, 2, 8. A place never exceeds 32 bits.
+ * The first that fits is answered. For a tree: 1, 2 or 12, then the records by index, and at each 3, 4, 5, 6; then 7;
+ * then 8. For append: 1, 4, 2 or 12, 8. A place never exceeds 32 bits.
+ *
+ * Of a text that is not UTF-8, 12 says that more bytes could have made it UTF-8 and 2 that none could: the bytes from
+ * the place to the end are the beginning of some character, or they are not. E2 82 at the end is 12; F0 80, ED A0 and C0
+ * are 2, and so is what is broken before the end.
  */
 #ifndef KINYANDOMA_H
 #define KINYANDOMA_H

@@ -25,11 +25,12 @@ SEED=${SEED:-1}
 TREE_CASES=${TREE_CASES:-1000000}
 TREES_RENDERED=${TREES_RENDERED:-1000000}
 NUMBERS=${NUMBERS:-10000000}
+ENCODED=${ENCODED:-5000000}
 ENTRIES=${ENTRIES:-1000000}
 STREAMS=${STREAMS:-1000000}
 FUZZED=${FUZZED:-10000000}
 ENTRY_FAULTS=20000
-LISTED=1000
+LISTED=1032
 LISTED_SEED=1
 
 oracle=$(cd "$(dirname "${BASH_SOURCE[0]}")" && pwd)
@@ -150,6 +151,9 @@ KINYANDOMA_LIB=$library build --package compare
 
 echo "numbers of every length and both signs, against Rust's own decimal text and the crate's:"
 "$programs/compare" numbers "$NUMBERS" "$SEED"
+
+echo "texts that are whole, cut off or never UTF-8, against Rust's own check:"
+"$programs/compare" encoding "$ENCODED" "$SEED"
 
 echo "the library's calls on whatever comes, between known bytes and beside closed pages:"
 "$programs/compare" fuzz "$FUZZED" "$SEED"

@@ -1,7 +1,8 @@
 /* Calls the three functions of libkinyandoma.a on good and bad input, as a C program does.
  *
- * What is expected is document 01's: section 6 for the cases, section 3 for the numbers and places. Around every lent part
- * stand known bytes, which must stay. One line a case, and `N passed, M failed` at the end. */
+ * What is expected is document 01's: section 6 for the cases, section 3 for the numbers and places; 12 is document 02's,
+ * request ii. Around every lent part stand known bytes, which must stay. One line a case, and `N passed, M failed` at the
+ * end. */
 #include "kinyandoma.h"
 
 #include <stdio.h>
@@ -131,7 +132,7 @@ static void stream(const stream_case *c) {
     tell(c->name, done && count_of(record) == room && holds(&out, c->text, room));
 }
 
-/* ---- refused appends: section 3, in the order 1, 4, 2, 8 */
+/* ---- refused appends: section 3, in the order 1, 4, 2 or 12, 8 */
 
 static uint8_t long_value[MOST + 1];
 
@@ -164,8 +165,15 @@ static const append_case APPENDS[] = {
     {"append: an overlong form is 2", {1}, 9, 4, ID_VALUE, BYTES("a\xC0\x80"), 2, 1},
     {"append: a surrogate is 2", {1}, 9, 4, ID_VALUE, BYTES("\xED\xA0\x80"), 2, 0},
     {"append: over 10FFFF is 2", {1}, 9, 4, ID_VALUE, BYTES("\xF4\x90\x80\x80"), 2, 0},
+    {"append: F0 80 at the end is 2", {1}, 9, 4, ID_VALUE, BYTES("ab\xF0\x80"), 2, 2},
+    {"append: a character that another breaks off is 2", {1}, 9, 4, ID_VALUE, BYTES("a\xE2\x82z"), 2, 1},
+    {"append: a character cut off after a byte is 12", {1}, 9, 4, ID_VALUE, BYTES("ab\xC3"), 12, 2},
+    {"append: a character cut off after two bytes is 12", {1}, 9, 4, ID_VALUE, BYTES("ab\xE2\x82"), 12, 2},
+    {"append: a character cut off after three bytes is 12", {1}, 9, 4, ID_VALUE, BYTES("\xF0\x9F\x98"), 12, 0},
     {"append: 65,537 bytes are 2, place 65,536", {1}, 9, 4, ID_VALUE, long_value, MOST + 1, 2, MOST},
     {"append: 2 comes before 8", {1}, 9, 0, ID_VALUE, BYTES("a\xFF"), 2, 1},
+    {"append: 4 comes before 12", {1}, 9, 4, NO_TOKEN | VALUE_PRESENT, BYTES("\xC3"), 4, 0},
+    {"append: 12 comes before 8", {1}, 9, 0, ID_VALUE, BYTES("a\xC3"), 12, 1},
     {"append: no room is 8", {1}, 9, 2, ID_VALUE, BYTES("abc"), 8, 3},
     {"append: no room for the space is 8", {0, 1}, 9, 4, ID_VALUE, BYTES("abc"), 8, 4},
     {"append: a count at the end is no 1 but 8", {1, 4}, 9, 4, ID_VALUE, BYTES("abc"), 8, 3},
@@ -224,9 +232,13 @@ static const tree_case TREES[] = {
     {"tree: 65,552 bytes are 1", too_large, MOST + 16, BYTES(""), 1, 0},
     {"tree: 1 comes before 2", GOOD, 47, BYTES("\xFF"), 1, 0},
     {"tree: 65,537 bytes of text are 2, place 65,536", GOOD, 48, long_text, MOST + 1, 2, MOST},
-    {"tree: bad UTF-8 is 2", GOOD, 48, BYTES("ge\xC3"), 2, 2},
+    {"tree: bad UTF-8 is 2", GOOD, 48, BYTES("ge\x80"), 2, 2},
+    {"tree: a surrogate's beginning is 2", GOOD, 48, BYTES("ge\xED\xA0"), 2, 2},
+    {"tree: a text that is cut off is 12", GOOD, 48, BYTES("ge\xC3"), 12, 2},
+    {"tree: 1 comes before 12", GOOD, 47, BYTES("ge\xC3"), 1, 0},
     {"tree: a wrong mark is 3", WRONG_MARK, 48, BYTES("geo"), 3, 1},
     {"tree: a wrong mark with bad UTF-8 is 2", WRONG_MARK, 48, BYTES("ge\xFF"), 2, 2},
+    {"tree: a wrong mark with a text that is cut off is 12", WRONG_MARK, 48, BYTES("ge\xE2\x82"), 12, 2},
     {"tree: a kind that may not stand here is 4", WRONG_KIND, 32, BYTES("geo"), 4, 1},
     {"tree: an undefined flag is 4", WRONG_FLAG, 48, BYTES("geo"), 4, 1},
     {"tree: a wrong child count is 4", WRONG_COUNT, 64, BYTES("geo"), 4, 1},

@@ -13,7 +13,7 @@ enum {
     HEAD = 6,           /* bytes of an input before tree and text, or record and value */
     BEFORE = 0xEE,      /* what stands in an output before a call */
     PLACES = 4096,      /* places told apart */
-    NUMBERS = 9,        /* numbers of an answer */
+    NUMBERS = 13,       /* one more than the last number of an answer */
     LONGEST = 1 << 20,  /* longer texts are measured only */
     NO_ROOM = 8
 };

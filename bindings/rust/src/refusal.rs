@@ -19,10 +19,23 @@ pub const MOST_BYTES: usize = 65_536;
 ///      give one whole tree"
 /// );
 /// ```
+///
+/// A text that was cut off on its way is told from one that was never UTF-8:
+///
+/// ```
+/// use kinyandoma::{id, measure, Reason};
+///
+/// let (tree, text) = id("1 €").finish()?;
+/// let cut_off = measure(&tree, &text[..4]).unwrap_err();
+/// assert_eq!((cut_off.number, cut_off.place), (12, 2));
+/// assert_eq!(cut_off.reason, Reason::CutOff);
+/// assert_eq!(measure(&tree, b"1 \xFF").unwrap_err().reason, Reason::NotUtf8);
+/// # Ok::<(), Box<dyn std::error::Error>>(())
+/// ```
 #[derive(Clone, Copy, Debug, PartialEq, Eq)]
 #[non_exhaustive]
 pub struct Refusal {
-    /// 1 to 8, as include/kinyandoma.h lists them.
+    /// 1 to 8 or 12, as include/kinyandoma.h lists them.
     pub number: u32,
     /// A record's index, a byte of the text, or the length that is needed: the reason tells which.
     pub place: usize,
@@ -42,6 +55,8 @@ pub enum Reason {
     TextTooLong,
     /// 2: the byte at the place begins no character of UTF-8.
     NotUtf8,
+    /// 12: the text or value ends in the middle of the character that begins at the place.
+    CutOff,
     /// 3: the record at the place does not begin with the mark 53 4E.
     Mark,
     /// 4: the record at the place may not stand there as it is.
@@ -92,6 +107,7 @@ fn reason(asked: Asked, number: u32, place: usize) -> Reason {
         (6, _) => Reason::TooDeep,
         (7, _) => Reason::RecordCount,
         (8, _) => Reason::NoRoom,
+        (12, _) => Reason::CutOff,
         (number, _) => {
             panic!("libkinyandoma.a answers {number}: it is not the library of this crate")
         }
@@ -124,6 +140,10 @@ impl Reason {
             Reason::NotUtf8 => (
                 "byte {place} of the text begins no character of UTF-8",
                 "give UTF-8",
+            ),
+            Reason::CutOff => (
+                "the text ends in the middle of a character, which begins at byte {place}",
+                "give all of it: some of its end is missing",
             ),
             Reason::Mark => (
                 "record {place} does not begin with the mark 53 4E",

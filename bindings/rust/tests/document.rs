@@ -93,6 +93,36 @@ fn a_wrong_mark_with_bad_utf8_is_2() {
     assert_eq!(measure(&tree, TEXT).unwrap_err().reason, Reason::Mark);
 }
 
+/// Request ii: the bytes from the place on begin a character that is not whole.
+#[test]
+fn a_text_that_is_cut_off_is_12() {
+    let mut wrong_mark = TREE;
+    wrong_mark[0] = 0;
+    for text in [&b"ge\xC3"[..], b"ge\xE2\x82", b"ge\xF0\x9F\x98"] {
+        for tree in [TREE, wrong_mark] {
+            let mut out = [0; 24];
+            let refusal = render(&tree, text, &mut out).unwrap_err();
+            assert_eq!(measure(&tree, text), Err(refusal));
+            assert_eq!((refusal.number, refusal.place), (12, 2));
+            assert_eq!(refusal.reason, Reason::CutOff);
+            assert_eq!(out, [0; 24]);
+        }
+    }
+    let told = measure(&TREE, b"ge\xC3").unwrap_err().to_string();
+    let expected = "refused with 12, place 2: the text ends in the middle of a character, which begins at byte 2; \
+                    give all of it: some of its end is missing";
+    assert_eq!(told, expected);
+}
+
+#[test]
+fn a_text_that_no_end_can_mend_is_2() {
+    for text in [&b"ge\xC0"[..], b"ge\xF0\x80", b"ge\xED\xA0", b"ge\xE2\x82o"] {
+        let refusal = measure(&TREE, text).unwrap_err();
+        assert_eq!((refusal.number, refusal.place), (2, 2));
+        assert_eq!(refusal.reason, Reason::NotUtf8);
+    }
+}
+
 #[test]
 fn a_check_whose_source_has_a_comment() {
     let check = Node::new(Kind::Check).child(Run::new()).text("a--b");
@@ -149,9 +179,11 @@ fn missing_and_left_over_records_are_7() {
 
 #[test]
 fn a_text_that_is_too_long_is_2() {
-    let refusal = measure(&TREE, &vec![0xFF; 65_537]).unwrap_err();
-    assert_eq!((refusal.number, refusal.place), (2, 65_536));
-    assert_eq!(refusal.reason, Reason::TextTooLong);
+    for byte in [b'x', 0xC3, 0xFF] {
+        let refusal = measure(&TREE, &vec![byte; 65_537]).unwrap_err();
+        assert_eq!((refusal.number, refusal.place), (2, 65_536));
+        assert_eq!(refusal.reason, Reason::TextTooLong);
+    }
 }
 
 #[test]

@@ -4,9 +4,12 @@ mod common;
 
 use common::{hex, streams, trees, Stored};
 use kinyandoma::{measure, render, render_to_string, render_to_vec, Refusal, Stream};
+use std::str::from_utf8;
 
 /// What stands in an output before.
 const BEFORE: u8 = 0xEE;
+/// The line of a stream with a value that is no text.
+const REFUSED: &str = "refused";
 
 /// `NUMBER PLACE`; a reader is told both, and more.
 fn refused(refusal: Refusal) -> String {
@@ -28,7 +31,7 @@ fn line(stored: &Stored) -> String {
 fn trees_are_written_as_stored() {
     let stored = trees("replay_text");
     let written = stored.iter().filter(|tree| line(tree).starts_with("0 "));
-    assert_eq!((stored.len(), written.count()), (895, 815));
+    assert_eq!((stored.len(), written.count()), (946, 815));
     for tree in &stored {
         assert_eq!(line(tree), tree.expected, "tree {}", hex(&tree.tree));
     }
@@ -56,7 +59,7 @@ fn render_keeps_to_its_room() {
 #[test]
 fn trees_are_refused_as_stored() {
     let stored = trees("replay_trees");
-    assert_eq!(stored.len(), 1000);
+    assert_eq!(stored.len(), 1032);
     for tree in &stored {
         let answer = match measure(&tree.tree, &tree.text) {
             Ok(_) => "0 0".to_string(),
@@ -80,12 +83,13 @@ fn every_text_is_a_string() {
 fn streams_are_written_as_stored() {
     let stored = streams();
     assert!(stored.len() > 1000, "{} streams", stored.len());
-    for case in &stored {
+    for case in stored.iter().filter(|case| case.expected != REFUSED) {
         let (mut stream, mut grown) = (Stream::new(), Vec::new());
         let (mut same, mut lent) = (Stream::new(), vec![BEFORE; case.expected.len()]);
         for (token, value) in &case.tokens {
-            let added = stream.append_to_vec(*token, value.as_deref(), &mut grown);
-            let again = same.append(*token, value.as_deref(), &mut lent);
+            let value = value.as_deref().map(|bytes| from_utf8(bytes).unwrap());
+            let added = stream.append_to_vec(*token, value, &mut grown);
+            let again = same.append(*token, value, &mut lent);
             assert_eq!(added, again);
             assert!(added.is_ok(), "{added:?}");
         }
@@ -94,6 +98,18 @@ fn streams_are_written_as_stored() {
         assert_eq!(grown, lent[..grown.len()]);
         let line = format!("{} {}", hex(&grown), u8::from(stream.spaced()));
         assert_eq!(line, case.expected, "{:?}", case.tokens);
+    }
+}
+
+/// A stream of this crate takes strings, so that none of these values can be given to it.
+#[test]
+fn refused_streams_have_a_value_that_is_no_string() {
+    let stored = streams();
+    let refused = stored.iter().filter(|case| case.expected == REFUSED);
+    let broken = |value: &Option<Vec<u8>>| value.as_ref().is_some_and(|v| from_utf8(v).is_err());
+    assert_eq!(refused.clone().count(), 30);
+    for case in refused {
+        assert!(case.tokens.iter().any(|(_, value)| broken(value)));
     }
 }
 

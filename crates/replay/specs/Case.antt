@@ -10,5 +10,5 @@ room = 65536
 -- the bytes that a case wrote lie within its text
 abbrev pub Within : Case → Type 0
 Within (Written rec) = rec .count ≤ room
-Within Refused = Unit {0}
+Within (Refused number place) = Unit {0}
 Within CutOff = Unit {0}

@@ -1,4 +1,4 @@
-// Replays cases of append from standard input, and prints a line for each: the bytes written, in hex, and the record's bit.
+// Replays cases of append from standard input, and prints a line for each: the bytes written, in hex, and the record's bit; or the refusal.
 //
 // A case is a byte, the number of its tokens, and the tokens. A token is its word and the length of its value, each of
 // two bytes, little-endian, and the value's bytes.
@@ -20,8 +20,8 @@ const TEXT: usize = 65536;
 enum Case {
     // Each token so far was appended, and left this record.
     Written(Stream),
-    // A token was refused.
-    Refused,
+    // A token was refused, with this number and place.
+    Refused(u64, u64),
     // The input ended in the middle of the case.
     CutOff,
 }
@@ -50,7 +50,7 @@ fn append_token(rec: Stream, text: &mut [u8; TEXT], token: u16, value: &[u8]) ->
     let left = next.rec;
     match answer {
         Answer::Added(_) => Case::Written(left),
-        _ => Case::Refused,
+        _ => Case::Refused(append::number(answer), append::place(answer)),
     }
 }
 
@@ -109,6 +109,12 @@ fn print_written(rec: Stream, text: &[u8])
     }
 }
 
+// Prints the line of a case with a token that was refused: the refusal's number and place.
+fn print_refused(number: u64, place: u64) {
+    io::write_all(STDOUT_FILENO, b"refused ");
+    lines::print_numbers(number, place, b'\n');
+}
+
 // Prints the line of a case, and answers whether another may follow.
 fn print_case(case: Case, text: &[u8; TEXT]) -> bool
     requires { ⌜ Within case ⌝ }
@@ -118,8 +124,8 @@ fn print_case(case: Case, text: &[u8; TEXT]) -> bool
             print_written(rec, text);
             true
         }
-        Case::Refused => {
-            io::write_all(STDOUT_FILENO, b"refused\n");
+        Case::Refused(number, place) => {
+            print_refused(number, place);
             true
         }
         Case::CutOff => {

@@ -3,8 +3,9 @@ use Prim.Native.Nat.{ℕ}
 use mathlib.Core.Path.{_≡_, refl}
 use mathlib.Core.List.{List, [], _∷_, _++_}
 use Rattle.laws.specs.Text.{ascii}
-use Rattle.utf8.specs.Rfc3629.{boundary}
-use Rattle.utf8.specs.declared.Encoding.the-variants.{Valid, Bad}
+use Rattle.utf8.specs.Rfc3629.{number, boundary}
+use Rattle.utf8.specs.declared.Encoding.{Encoding}
+use Rattle.utf8.specs.declared.Encoding.the-variants.{Valid}
 use Rattle.record.specs.Record.{bytesAt, recordAt}
 use Rattle.grammar.specs.Grammar.{shape}
 use Rattle.grammar.specs.Slots.{slotsOf, flagsBelow, allowed, elements}
@@ -33,9 +34,9 @@ unfolding answerTo malformed
 no-tree = refl
 
 -- "A wrong mark together with bad UTF-8 gives 2."
-two-first : answerTo (Bad 1) (cmd ++ (drop-type ++ geo 0x54)) (0x67 ∷ 0x80 ∷ []) ≡ Broken (Bad 1)
+two-first : (e : Encoding) → number e ≡ 2 → answerTo e (cmd ++ (drop-type ++ geo 0x54)) (0x67 ∷ 0x80 ∷ []) ≡ Broken e
 unfolding answerTo malformed
-two-first = refl
+two-first e two = rw two
 
 wrong-mark : answerTo Valid (cmd ++ (drop-type ++ geo 0x54)) (ascii "geo") ≡ Mark 2
 unfolding answerTo malformed scan faults fits holds flagsFit hasPart fieldsFit rangeFits inside boundary recordAt bytesAt shape slotsOf flagsBelow allowed elements

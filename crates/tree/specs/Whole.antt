@@ -9,10 +9,9 @@ use lib.ListN.{length}
 use borrow.Author.Tests.{eq-eqb, ne-eqb, lt-ltb, le-ltb, ltb-true, ltb-false}
 use Rattle.utf8.specs.Rfc3629 as utf8
 use Rattle.utf8.specs.Rfc3629.{Encoded, none}
-use Rattle.utf8.specs.Laws.{encoded-unique, boundary-text}
+use Rattle.utf8.specs.Laws.{encoded-unique, number-text, boundary-text}
 use Rattle.utf8.specs.Decided.{decided}
 use Rattle.utf8.specs.declared.Encoding.{Encoding}
-use Rattle.utf8.specs.declared.Encoding.the-variants.{Valid, Bad}
 use Rattle.record.specs.Record.{count}
 use Rattle.grammar.specs.Grammar.{root}
 use Rattle.grammar.specs.Classes.{classAt, rootAt, root-is}
@@ -52,8 +51,7 @@ module _ (t x : List ℕ) (w : ℕ) (short : count t < refused) (walked : Walks 
 
 -- a text that is UTF-8 does not start inside a character
 pub starts-whole : (x : List ℕ) (e : Encoding) (m : ℕ) → Encoded x e → m ≡ utf8.number e → m ≡ 0 → utf8.boundary x 0 ≡ true
-starts-whole x Valid m t is z = boundary-text t 0 (omega arith) .1 none
-starts-whole x (Bad p) m t is z = absurd (omega arith)
+starts-whole x e m h is z = boundary-text (number-text x e h .0 (sym is ∙ z)) 0 (omega arith) .1 none
 
 -- ---- 1, 2, and then the records
 pub short-count : (t : List ℕ) (b : Bool) → b ≡ malformed t → b ≡ false → count t < refused

@@ -57,24 +57,24 @@ pub ones-0 : (b : ℕ) → b ≤ 0x7F → ones b ≡ 0
 unfolding ones
 ones-0 b h = rw (lt-ltb b 0x80 (omega arith))
 
-ones-2 : (b : ℕ) → In 0xC0 0xDF b → ones b ≡ 2
+pub ones-2 : (b : ℕ) → In 0xC0 0xDF b → ones b ≡ 2
 unfolding ones
 ones-2 b h = rw (le-ltb b 0x80 (omega arith), le-ltb b 0xC0 (omega arith), lt-ltb b 0xE0 (omega arith))
 
-ones-3 : (b : ℕ) → In 0xE0 0xEF b → ones b ≡ 3
+pub ones-3 : (b : ℕ) → In 0xE0 0xEF b → ones b ≡ 3
 unfolding ones
 ones-3 b h = rw (le-ltb b 0x80 (omega arith), le-ltb b 0xC0 (omega arith), le-ltb b 0xE0 (omega arith), lt-ltb b 0xF0 (omega arith))
 
-ones-4 : (b : ℕ) → In 0xF0 0xF7 b → ones b ≡ 4
+pub ones-4 : (b : ℕ) → In 0xF0 0xF7 b → ones b ≡ 4
 unfolding ones
 ones-4 b h =
     rw (le-ltb b 0x80 (omega arith), le-ltb b 0xC0 (omega arith), le-ltb b 0xE0 (omega arith), le-ltb b 0xF0 (omega arith), lt-ltb b 0xF8 (omega arith))
 
 -- ---- the second byte: its range after each of the RFC's leads
 
-record Row (a from to : ℕ) : Type 0 where
-  low-is : low a ≡ from
-  high-is : high a ≡ to
+pub record Row (a from to : ℕ) : Type 0 where
+  pub low-is : low a ≡ from
+  pub high-is : high a ≡ to
 
 lone : (a b : ℕ) → In b b a → Row a (low b) (high b)
 lone a b h = let e : a ≡ b = omega arith in record { low-is = ap low e; high-is = ap high e }
@@ -83,35 +83,35 @@ plain : (a : ℕ) → (a ≡ 0xE0 → ⊥) → (a ≡ 0xED → ⊥) → (a ≡ 0
 unfolding low high
 plain a h k l m = record { low-is = rw (ne-eqb a 0xE0 h, ne-eqb a 0xF0 l); high-is = rw (ne-eqb a 0xED k, ne-eqb a 0xF4 m) }
 
-row-E0 : (a : ℕ) → In 0xE0 0xE0 a → Row a 0xA0 0xBF
+pub row-E0 : (a : ℕ) → In 0xE0 0xE0 a → Row a 0xA0 0xBF
 unfolding low high
 row-E0 a h = lone a 0xE0 h
 
-row-E1 : (a : ℕ) → In 0xE1 0xEC a → Row a 0x80 0xBF
+pub row-E1 : (a : ℕ) → In 0xE1 0xEC a → Row a 0x80 0xBF
 row-E1 a h = plain a (λ e. omega arith) (λ e. omega arith) (λ e. omega arith) (λ e. omega arith)
 
-row-ED : (a : ℕ) → In 0xED 0xED a → Row a 0x80 0x9F
+pub row-ED : (a : ℕ) → In 0xED 0xED a → Row a 0x80 0x9F
 unfolding low high
 row-ED a h = lone a 0xED h
 
-row-EE : (a : ℕ) → In 0xEE 0xEF a → Row a 0x80 0xBF
+pub row-EE : (a : ℕ) → In 0xEE 0xEF a → Row a 0x80 0xBF
 row-EE a h = plain a (λ e. omega arith) (λ e. omega arith) (λ e. omega arith) (λ e. omega arith)
 
-row-F0 : (a : ℕ) → In 0xF0 0xF0 a → Row a 0x90 0xBF
+pub row-F0 : (a : ℕ) → In 0xF0 0xF0 a → Row a 0x90 0xBF
 unfolding low high
 row-F0 a h = lone a 0xF0 h
 
-row-F1 : (a : ℕ) → In 0xF1 0xF3 a → Row a 0x80 0xBF
+pub row-F1 : (a : ℕ) → In 0xF1 0xF3 a → Row a 0x80 0xBF
 row-F1 a h = plain a (λ e. omega arith) (λ e. omega arith) (λ e. omega arith) (λ e. omega arith)
 
-row-F4 : (a : ℕ) → In 0xF4 0xF4 a → Row a 0x80 0x8F
+pub row-F4 : (a : ℕ) → In 0xF4 0xF4 a → Row a 0x80 0x8F
 unfolding low high
 row-F4 a h = lone a 0xF4 h
 
-second-true : (a b : ℕ) → In (low a) (high a) b → second a b ≡ true
+pub second-true : (a b : ℕ) → In (low a) (high a) b → second a b ≡ true
 second-true a b h = and-both (leb (low a) b) (leb b (high a)) (le-leb (low a) b (h .low)) (le-leb b (high a) (h .high))
 
-true-second : (a b : ℕ) → second a b ≡ true → In (low a) (high a) b
+pub true-second : (a b : ℕ) → second a b ≡ true → In (low a) (high a) b
 true-second a b e =
     record { low = leb-true _ _ (and-left (leb (low a) b) (leb b (high a)) e); high = leb-true _ _ (and-right (leb (low a) b) (leb b (high a)) e) }
 
@@ -150,7 +150,7 @@ width-char (four-F4 {a} {b} {c} {d} h k l m) t = width-4 a b c d t (omega arith)
 
 -- ---- what is found is a character
 
-char-3 : (a b c : ℕ) → In 0xE0 0xEF a → In (low a) (high a) b → Tail c → Char (a ∷ b ∷ c ∷ [])
+pub char-3 : (a b c : ℕ) → In 0xE0 0xEF a → In (low a) (high a) b → Tail c → Char (a ∷ b ∷ c ∷ [])
 char-3 a b c h k l = go (ltb a 0xE1) (ltb a 0xED) (ltb a 0xEE) refl refl refl
   where
     go : (p q r : Bool) → ltb a 0xE1 ≡ p → ltb a 0xED ≡ q → ltb a 0xEE ≡ r → Char (a ∷ b ∷ c ∷ [])
@@ -167,7 +167,7 @@ char-3 a b c h k l = go (ltb a 0xE1) (ltb a 0xED) (ltb a 0xEE) refl refl refl
         let x : In 0xEE 0xEF a = omega (arith, ltb-false a 0xEE g) in
         three-EE {b = b} x (omega (arith, row-EE a x)) l
 
-char-4 : (a b c d : ℕ) → In 0xF0 0xF4 a → In (low a) (high a) b → Tail c → Tail d → Char (a ∷ b ∷ c ∷ d ∷ [])
+pub char-4 : (a b c d : ℕ) → In 0xF0 0xF4 a → In (low a) (high a) b → Tail c → Tail d → Char (a ∷ b ∷ c ∷ d ∷ [])
 char-4 a b c d h k l m = go (ltb a 0xF1) (ltb a 0xF4) refl refl
   where
     go : (p q : Bool) → ltb a 0xF1 ≡ p → ltb a 0xF4 ≡ q → Char (a ∷ b ∷ c ∷ d ∷ [])

@@ -9,9 +9,10 @@ use lib.ListN.{length, take, drop, length-drop}
 use lib.Seq.{take-all, take-add}
 use borrow.Author.Tests.{leb-true, leb-false, eqb-true, eqb-false}
 use Rattle.utf8.specs.declared.Encoding.{Encoding}
-use Rattle.utf8.specs.declared.Encoding.the-variants.{Valid, Bad}
+use Rattle.utf8.specs.declared.Encoding.the-variants.{Valid}
 use Rattle.utf8.specs.Rfc3629.{Text, none, Encoded}
-use Rattle.utf8.specs.Scan.{width}
+use Rattle.utf8.specs.Scan.{width, brokenAt}
+use Rattle.utf8.specs.Beginnings.{broken-encoded}
 use Rattle.utf8.specs.Characters.{width-none, width-starts}
 use Rattle.utf8.specs.Laws.{text-append, text-char, longest-here}
 
@@ -29,7 +30,7 @@ from s (suc n) i h l t =
     by true p z q go = (Valid, rw (take-all i s (leb-true (length s) i p)) at t)
     by false p true q go =
         let less = leb-false (length s) i p in
-        (Bad i, (less, longest-here s i less t (width-none (drop i s) (eqb-true (width (drop i s)) 0 q))))
+        (brokenAt (drop i s) i, broken-encoded s i (less, longest-here s i less t (width-none (drop i s) (eqb-true (width (drop i s)) 0 q))))
     by false p false q go =
         let w = width (drop i s) in
         let some = eqb-false w 0 q in

@@ -1,12 +1,14 @@
--- Examples: characters of two, three and four bytes, and bytes that are no text. Assumes nothing.
+-- Examples: characters of two, three and four bytes, bytes that are no text, and which of these are cut off. Assumes nothing.
 use Prim.Native.Nat.{ℕ}
-use mathlib.Core.Path.{refl}
-use mathlib.Core.List.{[], _∷_}
+use mathlib.Core.Path.{_≡_, refl, _∙_, sym}
+use mathlib.Core.List.{List, [], _∷_}
+use mathlib.Core.Bool.{false, false≢true}
 use native.Mathlib.Omega.{arith}
 use lib.Dec.{T, leb, leb→le}
-use Rattle.utf8.specs.Rfc3629.{In, Char, two, three-E1, four-F0, four-F4, Text}
-use Rattle.utf8.specs.Scan.{ones, low, high, two as two', three, four, counted, width}
+use Rattle.utf8.specs.Rfc3629.{In, Char, two, three-E1, four-F0, four-F4, Text, Begins}
+use Rattle.utf8.specs.Scan.{ones, low, high, two as two', three, four, counted, width, long, begins}
 use Rattle.utf8.specs.Characters.{width-none}
+use Rattle.utf8.specs.Beginnings.{begins-true}
 use Rattle.utf8.specs.Laws.{text-first}
 
 byte : (a b x : ℕ) → T (leb a x) → T (leb x b) → In a b x
@@ -55,3 +57,23 @@ lone-tail t = text-first t (width-none (0x80 ∷ []) refl) (omega arith)
 cut-short : Text (0xE2 ∷ 0x82 ∷ []) → ⊥
 unfolding width counted ones three
 cut-short t = text-first t (width-none (0xE2 ∷ 0x82 ∷ []) refl) (omega arith)
+
+-- what is there of it is a proper beginning: €, one byte short
+cut-off : Begins (0xE2 ∷ 0x82 ∷ [])
+cut-off = record { some = omega arith; missing = 0xAC ∷ []; short = omega arith; char = three-bytes }
+
+-- an overlong form, a surrogate and a byte that begins nothing are none, however they go on
+no-beginning : (s : List ℕ) → begins s ≡ false → Begins s → ⊥
+no-beginning s e b = false≢true (sym e ∙ begins-true s b)
+
+overlong-begun : Begins (0xF0 ∷ 0x80 ∷ []) → ⊥
+unfolding begins long ones low high
+overlong-begun = no-beginning (0xF0 ∷ 0x80 ∷ []) refl
+
+surrogate-begun : Begins (0xED ∷ 0xA0 ∷ []) → ⊥
+unfolding begins long ones low high
+surrogate-begun = no-beginning (0xED ∷ 0xA0 ∷ []) refl
+
+nothing-begun : Begins (0xC0 ∷ []) → ⊥
+unfolding begins long
+nothing-begun = no-beginning (0xC0 ∷ []) refl

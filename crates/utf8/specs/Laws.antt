@@ -12,8 +12,8 @@ use lib.ListN.{length, take, drop, getD, length-append, length-drop, take-append
 use lib.Seq.{take-length, take-nil, take-add, take-append-add, getD-append-add, getD-drop, length-take-le}
 use borrow.Author.Tests.{lt-ltb, ltb-true, ltb-false, eq-eqb, ne-eqb}
 use Rattle.utf8.specs.declared.Encoding.{Encoding}
-use Rattle.utf8.specs.declared.Encoding.the-variants.{Valid, Bad}
-use Rattle.utf8.specs.Rfc3629.{Tail, Char, Text, none, more, Longest, Encoded, number, place, tail, boundary}
+use Rattle.utf8.specs.declared.Encoding.the-variants.{Valid, Bad, Cut}
+use Rattle.utf8.specs.Rfc3629.{Tail, Char, Text, none, more, Longest, Begins, Ends, Encoded, number, place, tail, boundary}
 use Rattle.utf8.specs.Characters.{NoChar, tail-true, true-tail, char-length, char-rest, char-lead, char-inner}
 
 -- ---- put together
@@ -58,36 +58,48 @@ longest-here s i h k n = record { within = omega arith; text = k; last = last }
 
 -- ---- no two answers are right
 
-longest-not-text : (s : List ℕ) (p : ℕ) → p < length s → Longest s p → Text s → ⊥
-longest-not-text s p h l t = l .last (length s) h (omega arith) (rw (take-length s) t)
+ends-not-text : (s : List ℕ) (p : ℕ) → Ends s p → Text s → ⊥
+ends-not-text s p h t = h .1 .last (length s) (h .0) (omega arith) (rw (take-length s) t)
 
-longest-unique : (s : List ℕ) (p q : ℕ) → Longest s p → Longest s q → p ≡ q
-longest-unique s p q h k = go (ltb p q) (ltb q p) refl refl
+ends-unique : (s : List ℕ) (p q : ℕ) → Ends s p → Ends s q → p ≡ q
+ends-unique s p q h k = go (ltb p q) (ltb q p) refl refl
   where
     go : (a b : Bool) → ltb p q ≡ a → ltb q p ≡ b → p ≡ q
-    go true b e f = absurd (h .last q (ltb-true p q e) (k .within) (k .text))
-    go false true e f = absurd (k .last p (ltb-true q p f) (h .within) (h .text))
+    go true b e f = absurd (h .1 .last q (ltb-true p q e) (k .1 .within) (k .1 .text))
+    go false true e f = absurd (k .1 .last p (ltb-true q p f) (h .1 .within) (h .1 .text))
     go false false e f = omega (arith, ltb-false p q e, ltb-false q p f)
+
+-- from one place the bytes to the end are a proper beginning of a character, or not
+one-way : (s : List ℕ) (p q : ℕ) → Ends s p → (Begins (drop p s) → ⊥) → Ends s q → Begins (drop q s) → ⊥
+one-way s p q h n k b = n (rw (ends-unique s p q h k) b)
 
 pub encoded-unique : (s : List ℕ) (a b : Encoding) → Encoded s a → Encoded s b → a ≡ b
 encoded-unique s Valid Valid h k = refl
-encoded-unique s Valid (Bad q) h k = absurd (longest-not-text s q (k .0) (k .1) h)
-encoded-unique s (Bad p) Valid h k = absurd (longest-not-text s p (h .0) (h .1) k)
-encoded-unique s (Bad p) (Bad q) h k = ap Bad (longest-unique s p q (h .1) (k .1))
+encoded-unique s Valid (Bad q) h k = absurd (ends-not-text s q (k .0) h)
+encoded-unique s Valid (Cut q) h k = absurd (ends-not-text s q (k .0) h)
+encoded-unique s (Bad p) Valid h k = absurd (ends-not-text s p (h .0) k)
+encoded-unique s (Bad p) (Bad q) h k = ap Bad (ends-unique s p q (h .0) (k .0))
+encoded-unique s (Bad p) (Cut q) h k = absurd (one-way s p q (h .0) (h .1) (k .0) (k .1))
+encoded-unique s (Cut p) Valid h k = absurd (ends-not-text s p (h .0) k)
+encoded-unique s (Cut p) (Bad q) h k = absurd (one-way s q p (k .0) (k .1) (h .0) (h .1))
+encoded-unique s (Cut p) (Cut q) h k = ap Cut (ends-unique s p q (h .0) (k .0))
 
 -- for callers, who do not go by the cases of the answer: its number is small, and its place within the bytes
 pub number-small : (e : Encoding) → number e < 16
 number-small Valid = omega arith
 number-small (Bad p) = omega arith
+number-small (Cut p) = omega arith
 
 pub place-within : (s : List ℕ) (e : Encoding) → Encoded s e → place e ≤ length s
 place-within s Valid h = omega arith
-place-within s (Bad p) h = omega (arith, h .0)
+place-within s (Bad p) h = omega (arith, h .0 .0)
+place-within s (Cut p) h = omega (arith, h .0 .0)
 
 -- the answer's number says whether the bytes are a text
 pub number-text : (s : List ℕ) (r : Encoding) → Encoded s r → (number r ≡ 0) ↔ Text s
 number-text s Valid h = (λ e. h, λ t. refl)
-number-text s (Bad p) h = (λ e. absurd (omega arith), λ t. absurd (longest-not-text s p (h .0) (h .1) t))
+number-text s (Bad p) h = (λ e. absurd (omega arith), λ t. absurd (ends-not-text s p (h .0) t))
+number-text s (Cut p) h = (λ e. absurd (omega arith), λ t. absurd (ends-not-text s p (h .0) t))
 
 -- ---- boundaries
 

@@ -4,9 +4,9 @@ use Prim.Native.Nat.{ℕ, _≤_, _<_}
 use mathlib.Core.List.{List, [], _∷_, _++_}
 use mathlib.Core.Bool.{Bool, not, _&&_, _||_}
 use lib.Dec.{leb, ltb, eqb}
-use lib.ListN.{length, take, getD}
+use lib.ListN.{length, take, drop, getD}
 use Rattle.utf8.specs.declared.Encoding.{Encoding}
-use Rattle.utf8.specs.declared.Encoding.the-variants.{Valid, Bad}
+use Rattle.utf8.specs.declared.Encoding.the-variants.{Valid, Bad, Cut}
 
 -- %xA-B: a byte from a to b
 pub record In (a b x : ℕ) : Type 0 where
@@ -49,19 +49,33 @@ pub record Longest (s : List ℕ) (p : ℕ) : Type 0 where
   pub text : Text (take p s)
   pub last : (q : ℕ) → p < q → q ≤ length s → Text (take q s) → ⊥
 
--- what the check answers: the bytes are a text, or the longest text that begins them ends at p, before they do
+-- 02, ii: the bytes are a proper beginning of some UTF8-char: not empty, and at least one byte short
+pub record Begins (s : List ℕ) : Type 0 where
+  pub some : 0 < length s
+  pub missing : List ℕ
+  pub short : 0 < length missing
+  pub char : Char (s ++ missing)
+
+-- what the check answers: the bytes are a text, or the longest text that begins them ends at p, before they do;
+-- then they are cut off exactly if those from p to the end are a proper beginning of a character
+abbrev pub Ends : List ℕ → ℕ → Type 0
+Ends s p = (p < length s) × Longest s p
+
 abbrev pub Encoded : List ℕ → Encoding → Type 0
 Encoded s Valid = Text s
-Encoded s (Bad p) = (p < length s) × Longest s p
+Encoded s (Bad p) = Ends s p × (Begins (drop p s) → ⊥)
+Encoded s (Cut p) = Ends s p × Begins (drop p s)
 
--- the answer's number, and the place that goes with it
+-- the answer's number (01's, and 02's for cut off), and the place that goes with it
 abbrev pub number : Encoding → ℕ
 number Valid = 0
 number (Bad p) = 2
+number (Cut p) = 12
 
 abbrev pub place : Encoding → ℕ
 place Valid = 0
 place (Bad p) = p
+place (Cut p) = p
 
 -- the byte is a UTF8-tail
 abbrev pub tail : ℕ → Bool

@@ -1,10 +1,12 @@
 -- The length of the character that begins a row of bytes, as the code finds it: by the count of ones at the top of its first byte.
--- `Characters` shows that this is the RFC's. Assumes nothing.
+-- `Characters` shows that this is the RFC's. And whether the row is a proper beginning of a character, which `Beginnings` shows. Assumes nothing.
 use Prim.Native.Nat.{ℕ}
 use mathlib.Core.List.{List, [], _∷_}
-use mathlib.Core.Bool.{Bool, cond, _&&_}
+use mathlib.Core.Bool.{Bool, true, false, cond, _&&_}
 use lib.Dec.{leb, ltb, eqb}
 use lib.ListN.{length, getD}
+use Rattle.utf8.specs.declared.Encoding.{Encoding}
+use Rattle.utf8.specs.declared.Encoding.the-variants.{Bad, Cut}
 use Rattle.utf8.specs.Rfc3629.{tail}
 
 -- how many ones a byte has at its top
@@ -60,3 +62,19 @@ counted n s = cond (eqb n 0) 1 (cond (eqb n 2) (two s) (cond (eqb n 3) (three s)
 unfoldable pub width : List ℕ → ℕ
 width [] = 0
 width (a ∷ s) = counted (ones a) (a ∷ s)
+
+-- how many bytes the character has that a byte begins; 1 where it has no other, or the byte begins none
+unfoldable pub long : ℕ → ℕ
+long a = cond (ltb a 0xC2) 1 (cond (ltb 0xF4 a) 1 (ones a))
+
+-- fewer bytes than the first one says, and each where it may stand
+unfoldable pub begins : List ℕ → Bool
+begins s =
+    cond (eqb (length s) 0) false
+    (cond (leb (long (getD s 0 0)) (length s)) false
+    (cond (eqb (length s) 1) true
+    (cond (eqb (length s) 2) (second (getD s 0 0) (getD s 1 0)) (triple s))))
+
+-- what is said of the bytes from a place on that no character begins
+unfoldable pub brokenAt : List ℕ → ℕ → Encoding
+brokenAt s p = cond (begins s) (Cut p) (Bad p)

@@ -4,7 +4,7 @@ ghost use Prim.Native.Nat.{_<_, _≤_, _^_};
 ghost use mathlib.Core.Bool.{true};
 ghost use lib.ListN.{length, take};
 ghost use Rattle.utf8.specs.Rfc3629.{Encoded, number as number', place as place', tail as tail', boundary as boundary'};
-ghost use Rattle.utf8.specs.Scan.{ones as ones', low as low', high as high', second as second', two as two', three as three', four as four', width};
+ghost use Rattle.utf8.specs.Scan.{ones as ones', low as low', high as high', second as second', two as two', three as three', four as four', width, long as long', begins as begins', brokenAt};
 ghost use Rattle.laws.specs.Little.{fromLittle};
 ghost use Rattle.utf8.specs.Plain.{allPlain, Stops, Goes};
 
@@ -35,8 +35,10 @@ const LEAD_F4: u8 = 0xF4;
 
 const LAST_AFTER_F4: u8 = 0x8F;
 
-// 01's number of the refusal: not UTF-8.
+// The numbers of the refusals: 01's, not UTF-8, and 02's (ii), cut off in the middle of a character.
 const NOT_UTF8: u64 = 2;
+
+const CUT_OFF: u64 = 12;
 
 // Bytes are tested four, eight, sixteen or, in a long text, sixty-four at once.
 const FOUR: usize = 4;
@@ -56,6 +58,8 @@ pub enum Encoding {
     Valid,
     // They are none: the longest text that begins them ends here.
     Bad(usize),
+    // The same, and from here to the end they are a proper beginning of a character.
+    Cut(usize),
 }
 
 // The number of 01's table that an answer is: 0, or the refusal's.
@@ -65,6 +69,7 @@ pub fn number(e: Encoding) -> u64
     match e {
         Encoding::Valid => 0,
         Encoding::Bad(_) => NOT_UTF8,
+        Encoding::Cut(_) => CUT_OFF,
     }
 }
 
@@ -75,6 +80,7 @@ pub fn place(e: Encoding) -> usize
     match e {
         Encoding::Valid => 0,
         Encoding::Bad(at) => at,
+        Encoding::Cut(at) => at,
     }
 }
 
@@ -320,7 +326,50 @@ fn next_len(s: &[u8]) -> usize
     n + blocks(&s[n..])
 }
 
-// Whether the bytes are a text, and if not, where the longest text that begins them ends.
+// How many bytes the character has that a byte begins, where it has more than one; 1 for any other byte.
+fn long(lead: u8) -> usize
+    ensures { λ r. ⌜ r ≡ long' lead ⌝ }
+{
+    if lead < TWO_FIRST {
+        return 1;
+    }
+    if FOUR_LAST < lead {
+        return 1;
+    }
+    ones(lead) as usize
+}
+
+// Whether the bytes are a proper beginning of a character: fewer than its first byte says, and each where it may stand.
+fn begins(s: &[u8]) -> bool
+    ensures { λ r. ⌜ r ≡ begins' (now (s .entry)) ⌝ }
+{
+    let n = s.len();
+    if n == 0 {
+        return false;
+    }
+    if long(s[0]) <= n {
+        return false;
+    }
+    if n == 1 {
+        return true;
+    }
+    if n == 2 {
+        return second(s[0], s[1]);
+    }
+    second(s[0], s[1]) & tail(s[2])
+}
+
+// What is said of bytes that are no text, from the place where the longest text that begins them ends.
+fn broken(rest: &[u8], at: usize) -> Encoding
+    ensures { λ r. ⌜ r ≡ brokenAt (now (rest .entry)) at ⌝ }
+{
+    if begins(rest) {
+        return Encoding::Cut(at);
+    }
+    Encoding::Bad(at)
+}
+
+// Whether the bytes are a text, and if not, where the longest text that begins them ends, and whether they are cut off there.
 pub fn check(s: &[u8]) -> Encoding
     ensures { λ r. ⌜ Encoded (now (s .entry)) r ⌝ }
 {
@@ -328,7 +377,7 @@ pub fn check(s: &[u8]) -> Encoding
     while i < s.len() {
         let n = next_len(&s[i..]);
         if n == 0 {
-            return Encoding::Bad(i);
+            return broken(&s[i..], i);
         }
         i += n;
     }

@@ -1,7 +1,7 @@
 //! Plants each fault in the stand-ins and sees that the comparison finds it.
 
 use crate::trees::stand_in::{exchange, faulty_entries};
-use crate::{compare_all, fuzz, numbers, trees, Extent};
+use crate::{compare_all, encoding, fuzz, numbers, trees, Extent};
 use model::record::Record;
 use model::samples::Judged;
 use model::texts;
@@ -59,6 +59,11 @@ faults! {
         ZeroWidthSpaceIsWhite
         CommentOutsideLiteralsOnly
         OperatorQuotesDoubled;
+    ENCODING:
+        CutOffIsNotUtf8
+        OverlongIsCutOff
+        MiddleIsCutOff
+        PlaceOfLastByte;
     NUMBERS:
         OneSubtractionTooFew
         PowerLeftOut
@@ -74,6 +79,8 @@ const VALUES: u64 = 2_000;
 const SEED: u64 = 1;
 /// Numbers, for each fault of their texts: the edges are more.
 const DECIMALS: u64 = 1;
+/// Random texts, for each fault in telling how a text is broken.
+const BROKEN: u64 = 20_000;
 /// Calls of the fuzz run, for each fault.
 const FUZZED: u64 = 1_000_000;
 
@@ -87,13 +94,15 @@ pub fn try_all(whole: bool) -> bool {
     let mut listed = texts::all();
     let entries = entries_found(&listed);
     listed.extend(texts::limits());
-    let append = all_found(&[STREAM, APPEND].concat(), whole, &difference_in_append);
+    let by_append = [STREAM, APPEND, ENCODING].concat();
+    let append = all_found(&by_append, whole, &difference_in_append);
     let in_trees = |fault| difference_in_trees(fault, &listed);
-    let trees = all_found(&[STREAM, TREES].concat(), whole, &in_trees);
+    let trees = all_found(&[STREAM, TREES, ENCODING].concat(), whole, &in_trees);
     let numbers = all_found(NUMBERS, whole, &difference_in_numbers);
-    let by_fuzz = [STREAM, APPEND, TREES].concat();
+    let encoding = all_found(ENCODING, whole, &difference_in_encoding);
+    let by_fuzz = [STREAM, APPEND, TREES, ENCODING].concat();
     let fuzzed = all_found(&by_fuzz, whole, &difference_in_fuzz);
-    append && trees && entries && numbers && fuzzed
+    append && trees && entries && numbers && encoding && fuzzed
 }
 
 /// The difference that is found with a fault, if any is.
@@ -140,6 +149,11 @@ fn difference_in_trees(fault: usize, listed: &[Judged]) -> Option<String> {
 fn difference_in_numbers(fault: usize) -> Option<String> {
     PLANTED.store(fault, Ordering::Relaxed);
     numbers::compare(DECIMALS, SEED).err()
+}
+
+fn difference_in_encoding(fault: usize) -> Option<String> {
+    PLANTED.store(fault, Ordering::Relaxed);
+    encoding::compare_few(BROKEN, SEED).err()
 }
 
 fn difference_in_fuzz(fault: usize) -> Option<String> {

@@ -2,6 +2,7 @@
 
 mod call;
 mod crash;
+mod encoding;
 #[cfg(feature = "selftest")]
 mod faults;
 mod fuzz;
@@ -26,6 +27,7 @@ use tokens::random::Random;
 const USAGE: &str = "usage: compare [TOKENS [REFUSED-CALLS [SEED]]]
        compare trees COUNT SEED
        compare numbers COUNT SEED
+       compare encoding COUNT SEED
        compare reading COUNT SEED
        compare fuzz CALLS SEED";
 const DEFAULT_CALLS: u64 = 1_000_000;
@@ -45,6 +47,7 @@ fn main() {
     let told = match words.first().map(String::as_str) {
         Some("trees") => compare_random(&words[1..], &trees::compare),
         Some("numbers") => compare_random(&words[1..], &numbers::compare),
+        Some("encoding") => compare_random(&words[1..], &encoding::compare),
         Some("reading") => compare_random(&words[1..], &readable::compare),
         Some("fuzz") => compare_random(&words[1..], &fuzz::compare),
         _ => {

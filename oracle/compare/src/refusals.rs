@@ -2,8 +2,9 @@
 
 use crate::call::Call;
 use crate::report::{Counts, Difference};
-use crate::rules::{expected, LONGEST_VALUE};
+use crate::rules::expected;
 use calls::record;
+use tokens::encoding::LONGEST;
 use tokens::judge::step;
 use tokens::random::Random;
 use tokens::token::{known_numbers, Token, VALUE_PRESENT};
@@ -244,7 +245,7 @@ fn random_bytes(random: &mut Random) -> Vec<u8> {
 /// About 65,536 bytes, good or broken near one end.
 fn longest(random: &mut Random) -> Vec<u8> {
     let draw = random.pick(&[letter, blank, wide, any_kind]);
-    let mut value = of_length(random, LONGEST_VALUE - 8, draw).into_bytes();
+    let mut value = of_length(random, LONGEST - 8, draw).into_bytes();
     let length = random.pick(&[65_535, 65_536, 65_536, 65_537, 65_540, 131_072]);
     value.resize(length, b'q');
     match random.below(4) {

@@ -4,10 +4,15 @@ use crate::call::{Call, Outcome};
 use crate::guarded::Fences;
 use std::fmt;
 
+/// The numbers of an answer.
+pub const ANSWERS: [usize; 10] = [0, 1, 2, 3, 4, 5, 6, 7, 8, 12];
+/// How often each of them came, at its own place.
+pub type Numbers = [u64; 13];
+
 /// How often each answer number came.
 #[derive(Default)]
 pub struct Counts {
-    by_number: [u64; 9],
+    by_number: Numbers,
 }
 
 /// A call that the library settles otherwise than expected.
@@ -23,7 +28,7 @@ impl Counts {
         self.by_number.iter().sum()
     }
 
-    pub fn by_number(&self) -> &[u64; 9] {
+    pub fn by_number(&self) -> &Numbers {
         &self.by_number
     }
 
@@ -70,7 +75,7 @@ impl Counts {
 
 impl fmt::Display for Counts {
     fn fmt(&self, f: &mut fmt::Formatter<'_>) -> fmt::Result {
-        for number in [0, 1, 2, 4, 8] {
+        for number in [0, 1, 2, 12, 4, 8] {
             write!(f, "  answer {number}: {}", self.by_number[number])?;
         }
         Ok(())

@@ -1,10 +1,9 @@
-//! What each call has to answer, read from the document: 1, then 4, then 2, then 8.
+//! What each call has to answer, read from the documents: 1, then 4, then 2 or 12, then 8.
 
 use crate::call::{Call, Outcome};
+use tokens::encoding::{text_in, Refusal};
 use tokens::judge::{step, Step};
 use tokens::token::{kind_of, Token, VALUE_PRESENT};
-
-pub const LONGEST_VALUE: usize = 65_536;
 
 pub fn expected(call: &Call) -> Outcome {
     if !record_is_well_formed(call) {
@@ -14,7 +13,7 @@ pub fn expected(call: &Call) -> Outcome {
         return call.refused(4, 0);
     }
     match value_of(call) {
-        Err(place) => call.refused(2, place),
+        Err((number, place)) => call.refused(number, place as usize),
         Ok(value) => appended(call, value),
     }
 }
@@ -35,12 +34,9 @@ fn value_is_present(call: &Call) -> bool {
     call.token & VALUE_PRESENT != 0
 }
 
-/// The value as text, or the place of refusal 2.
-fn value_of(call: &Call) -> Result<Option<String>, usize> {
-    if call.value.len() > LONGEST_VALUE {
-        return Err(LONGEST_VALUE);
-    }
-    let text = std::str::from_utf8(&call.value).map_err(|error| error.valid_up_to())?;
+/// The value as text, or the refusal of its encoding.
+fn value_of(call: &Call) -> Result<Option<String>, Refusal> {
+    let text = text_in(&call.value)?;
     Ok(value_is_present(call).then(|| text.to_string()))
 }
 

@@ -2,6 +2,7 @@
 
 use crate::faults::{planted, Fault};
 use std::slice::{from_raw_parts, from_raw_parts_mut};
+use tokens::encoding::{self, text_in, Refusal, CUT_OFF, LONGEST, NOT_UTF8};
 use tokens::token::kind_of;
 
 const COMMA: u16 = 25;
@@ -12,6 +13,9 @@ const DOT: u16 = 142;
 const BLOB: u16 = 154;
 const LBRACKET: u16 = 189;
 const RBRACKET: u16 = 190;
+
+/// The beginning of an overlong form: no character begins so.
+const OVERLONG: [u8; 2] = [0xF0, 0x80];
 
 /// # Safety
 /// The three parts must be valid for their lengths.
@@ -29,30 +33,25 @@ pub unsafe extern "C" fn kinyandoma_append(
     // One byte more is lent than the caller said, for the fault that writes it.
     let out = from_raw_parts_mut(out, out_len + 1);
     let (number, place) = append(record, out, out_len, token, value);
-    (u64::from(number) << 32) + place as u64
+    (u64::from(number) << 32) + u64::from(place)
 }
 
-fn append(
-    record: &mut [u8],
-    out: &mut [u8],
-    out_len: usize,
-    token: u16,
-    value: &[u8],
-) -> (u32, usize) {
+fn append(record: &mut [u8], out: &mut [u8], out_len: usize, token: u16, value: &[u8]) -> Refusal {
     let Some((spaced, count)) = unpacked(record, out_len) else {
         return (1, 0);
     };
     let number = token & 0x7FFF;
     let present = token >> 15 == 1;
-    if planted(Fault::ValueBeforeToken) && std::str::from_utf8(value).is_err() {
-        return (2, bad_place(value).unwrap_or(0));
+    let broken = broken(value);
+    if let (Some(refusal), true) = (broken, planted(Fault::ValueBeforeToken)) {
+        return refusal;
     }
     let stray_value = !present && !value.is_empty() && !planted(Fault::ValueWithoutBit);
     if !known(number) || stray_value {
         return (4, 0);
     }
-    if let Some(place) = bad_place(value) {
-        return (2, place);
+    if let Some(refusal) = broken {
+        return refusal;
     }
     let (added, now_spaced) = written(spaced, number, present.then_some(value));
     let room = out_len - count;
@@ -63,7 +62,7 @@ fn append(
     };
     if !fits {
         spoil_refused(record, &mut out[..out_len]);
-        return (8, added.len());
+        return (8, added.len() as u32);
     }
     out[count..count + added.len()].copy_from_slice(&added);
     if planted(Fault::OneByteMore) {
@@ -71,7 +70,7 @@ fn append(
     }
     record[0] = u8::from(now_spaced);
     record[1..9].copy_from_slice(&((count + added.len()) as u64).to_le_bytes());
-    (0, added.len())
+    (0, added.len() as u32)
 }
 
 fn unpacked(record: &[u8], out_len: usize) -> Option<(bool, usize)> {
@@ -106,24 +105,38 @@ fn spoil_refused(record: &mut [u8], out: &mut [u8]) {
     }
 }
 
-fn bad_place(value: &[u8]) -> Option<usize> {
-    let longest = if planted(Fault::LongerValue) {
-        65_537
-    } else {
-        65_536
-    };
+/// The refusal of a value that is no text, or of one that is too long.
+fn broken(value: &[u8]) -> Option<Refusal> {
+    let longest = LONGEST + usize::from(planted(Fault::LongerValue));
     if value.len() > longest {
-        return Some(65_536);
+        return Some((NOT_UTF8, LONGEST as u32));
     }
-    let place = std::str::from_utf8(value).err()?.valid_up_to();
+    let error = std::str::from_utf8(value).err()?;
+    let place = error.valid_up_to();
     if planted(Fault::SurrogateTaken) && value[place] == 0xED && value.len() == place + 3 {
         return None;
     }
-    Some(if planted(Fault::PlaceOneLater) {
-        place + 1
-    } else {
-        place
-    })
+    let (number, place) = how_broken(value, encoding::refusal(error));
+    Some((number, place + u32::from(planted(Fault::PlaceOneLater))))
+}
+
+/// The refusal of a text or value, with the faults in telling how it is broken.
+pub fn how_broken(bytes: &[u8], (number, place): Refusal) -> Refusal {
+    let rest = &bytes[place as usize..];
+    match number {
+        CUT_OFF if planted(Fault::CutOffIsNotUtf8) => (NOT_UTF8, place),
+        CUT_OFF if planted(Fault::PlaceOfLastByte) => (CUT_OFF, bytes.len() as u32 - 1),
+        NOT_UTF8 if planted(Fault::OverlongIsCutOff) && rest == OVERLONG => (CUT_OFF, place),
+        NOT_UTF8 if planted(Fault::MiddleIsCutOff) && left_off(rest) => (CUT_OFF, place),
+        _ => (number, place),
+    }
+}
+
+/// Whether a character begins, and the next one before it is whole.
+fn left_off(rest: &[u8]) -> bool {
+    let begins = |at: &usize| !(0x80..0xC0).contains(&rest[*at]);
+    let next = (1..rest.len()).find(begins);
+    next.is_some_and(|next| text_in(&rest[..next]) == Err((CUT_OFF, 0)))
 }
 
 /// What one token adds, and the bit after it.

@@ -2,8 +2,8 @@
 
 use crate::call::Call;
 use crate::report::{Counts, Difference};
-use crate::rules::LONGEST_VALUE;
 use calls::record;
+use tokens::encoding::LONGEST;
 use tokens::judge::{steps_of, Step};
 use tokens::random::Random;
 use tokens::token::Token;
@@ -37,10 +37,8 @@ fn stream(random: &mut Random) -> Vec<Token> {
 /// A short stream, one of whose values is as long as a value may be, or almost.
 fn stream_with_long_values(random: &mut Random) -> Vec<Token> {
     let count = random.between(1, 12);
-    let mut tokens: Vec<Token> = (0..count)
-        .map(|_| random_token(random, LONGEST_VALUE))
-        .collect();
-    let length = LONGEST_VALUE - random.below(3);
+    let mut tokens: Vec<Token> = (0..count).map(|_| random_token(random, LONGEST)).collect();
+    let length = LONGEST - random.below(3);
     let draw = random.pick(&[letter, blank, wide, any_kind]);
     let place = random.below(count);
     tokens[place].value = Some(of_length(random, length, draw));

@@ -12,7 +12,7 @@ use model::check::check;
 use model::damage::{damage, Case};
 use model::samples::{sample, Judged};
 use model::texts;
-pub use report::{answers, Counts, Difference};
+pub use report::{answers, told, Counts, Difference};
 use tokens::random::Random;
 
 pub type Checked = Result<(), Box<Difference>>;

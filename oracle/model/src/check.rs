@@ -5,11 +5,9 @@ use crate::grammar::{
     TOKEN, TOKENS,
 };
 use crate::record::{Record, MARK, MOST_BYTES, SIZE, VALUE_PRESENT};
+use tokens::encoding::{text_in, Refusal};
 
 pub const DEEPEST: usize = 64;
-
-/// A refusal number and its place.
-type Refusal = (u32, u32);
 
 /// The number and place of the first refusal, (0, 0) if the tree is admitted.
 pub fn check(tree: &[u8], text: &[u8]) -> (u32, u32) {
@@ -23,10 +21,7 @@ fn first_refusal(tree: &[u8], text: &[u8]) -> Result<(), Refusal> {
     if tree.is_empty() || tree.len() > MOST_BYTES || !tree.len().is_multiple_of(SIZE) {
         return Err((1, 0));
     }
-    if text.len() > MOST_BYTES {
-        return Err((2, MOST_BYTES as u32));
-    }
-    let text = std::str::from_utf8(text).map_err(|error| (2, error.valid_up_to() as u32))?;
+    let text = text_in(text)?;
     let next = 0;
     let mut walk = Walk { tree, text, next };
     walk.record(&ROOT, 1)?;

@@ -7,11 +7,14 @@ use std::collections::BTreeMap;
 use std::fmt;
 use std::io::BufRead;
 
-/// How often each number came, in all and for each damage.
+/// How often each number came.
+type Numbers = BTreeMap<u32, u64>;
+
+/// The same, in all and for each damage.
 #[derive(Default)]
 pub struct Counts {
-    numbers: [u64; 8],
-    damages: BTreeMap<&'static str, [u64; 8]>,
+    numbers: Numbers,
+    damages: BTreeMap<&'static str, Numbers>,
 }
 
 /// The first case that is answered otherwise.
@@ -60,21 +63,24 @@ pub fn judge(count: usize, seed: u64, input: impl BufRead) -> Result<Counts, Box
 
 impl Counts {
     fn add(&mut self, name: &'static str, answer: &str) {
-        let number = usize::from(answer.as_bytes()[0] - b'0');
-        self.numbers[number] += 1;
-        self.damages.entry(name).or_default()[number] += 1;
+        let number = answer.split(' ').next().expect("a word");
+        let number = number.parse().expect("the model's number");
+        let of_damage = self.damages.entry(name).or_default();
+        for numbers in [&mut self.numbers, of_damage] {
+            *numbers.entry(number).or_default() += 1;
+        }
     }
 }
 
 impl fmt::Display for Counts {
     fn fmt(&self, f: &mut fmt::Formatter<'_>) -> fmt::Result {
-        for (number, count) in self.numbers.iter().enumerate() {
+        for (number, count) in &self.numbers {
             writeln!(f, "answer {number}: {count}")?;
         }
         for (name, numbers) in &self.damages {
-            let total: u64 = numbers.iter().sum();
+            let total: u64 = numbers.values().sum();
             write!(f, "{total} {name}:")?;
-            for (number, count) in numbers.iter().enumerate().filter(|(_, count)| **count > 0) {
+            for (number, count) in numbers {
                 write!(f, " {number} {count}x")?;
             }
             writeln!(f)?;

@@ -9,15 +9,16 @@ use crate::fixed;
 use crate::grammar::TOKEN;
 use crate::record::{Record, MOST_BYTES, MOST_RECORDS};
 use crate::samples::{self, Judged, Sample};
+use tokens::encoding::{CUT_OFF, NOT_UTF8};
 use tokens::judge::text_of;
 use tokens::token::Token;
 use turso_parser::token::TokenType::TK_COMMA;
 
-/// Listed refusals of each number, and the most bytes of one.
+/// Listed refusals of each number but those of broken texts, and the most bytes of one.
 const REFUSED: usize = 12;
 const LARGE: usize = 5_000;
 /// One more than the last number of a refused tree.
-const NUMBERS: usize = 8;
+const NUMBERS: usize = 13;
 const SEED: u64 = 1;
 
 /// In the order in which they are stored.
@@ -37,7 +38,7 @@ pub fn line(judged: &Judged) -> String {
     }
 }
 
-/// From the list of the check: some of each number.
+/// From the list of the check: some of each number, and every broken text.
 fn refused() -> Vec<Judged> {
     let mut counts = [0; NUMBERS];
     let mut refused = vec![];
@@ -45,7 +46,8 @@ fn refused() -> Vec<Judged> {
         let refusal = check(&case.tree, &case.text);
         let count = &mut counts[refusal.0 as usize];
         let small = case.tree.len() + case.text.len() <= LARGE;
-        if refusal.0 > 0 && small && *count < REFUSED {
+        let broken = matches!(refusal.0, NOT_UTF8 | CUT_OFF);
+        if refusal.0 > 0 && small && (broken || *count < REFUSED) {
             *count += 1;
             let expected = Err(refusal);
             refused.push(Judged { case, expected });

@@ -8,11 +8,14 @@ use model::samples::Judged;
 use model::{fixed, tally, texts};
 use std::collections::BTreeSet;
 use std::sync::OnceLock;
+use tokens::encoding::CUT_OFF;
 
+/// How many are stored.
+const LISTED: usize = 1_032;
 const MOST_BYTES: usize = 1_500_000;
 const LARGE: usize = 32_768;
 const FEWEST_TEXTS: usize = 500;
-const MOST_TEXTS: usize = 900;
+const MOST_TEXTS: usize = 1_000;
 const MOST_BYTES_OF_TEXTS: usize = 400_000;
 
 #[test]
@@ -20,7 +23,7 @@ fn the_fixed_list_has_every_number() {
     let cases = fixed::all(0, 1);
     let numbers = cases.iter().map(|case| check(&case.tree, &case.text).0);
     let numbers: BTreeSet<u32> = numbers.collect();
-    assert_eq!(numbers, (0..=7).collect());
+    assert_eq!(numbers, (0..=7).chain([CUT_OFF]).collect());
 }
 
 #[test]
@@ -47,9 +50,10 @@ fn the_fixed_list_has_every_kind_and_flag_value() {
 
 #[test]
 fn the_fixed_list_is_small() {
-    let cases = fixed::all(1_000, 1);
+    let cases = fixed::all(LISTED, 1);
     let size = |case: &model::damage::Case| case.tree.len() + case.text.len();
-    assert_eq!(cases.len(), 1_000);
+    assert_eq!(cases.len(), LISTED);
+    assert!(fixed::all(0, 1).len() < LISTED, "some are random");
     assert!(cases.iter().map(|case| 8 + size(case)).sum::<usize>() < MOST_BYTES);
     assert!(cases.iter().filter(|case| size(case) > LARGE).count() <= 8);
 }
@@ -93,7 +97,7 @@ fn the_list_of_texts_has_every_refusal_and_is_small() {
         .iter()
         .filter_map(|judged| judged.expected.as_ref().err());
     let numbers: BTreeSet<u32> = refused.map(|(number, _)| *number).collect();
-    assert_eq!(numbers, (1..=7).collect());
+    assert_eq!(numbers, (1..=7).chain([CUT_OFF]).collect());
     let size = |judged: &Judged| {
         let case = &judged.case;
         8 + case.tree.len() + case.text.len() + texts::line(judged).len() + 1

@@ -100,10 +100,26 @@ fn refusal_1() {
 fn refusal_2() {
     let run = Record::new(RUN, 0).bytes();
     assert_eq!(check(&run, &[0xFF]), (2, 0));
-    assert_eq!(check(&run, b"a\xC3\xA9\xE2\x82"), (2, 3));
+    assert_eq!(check(&run, b"a\xC3\xA9\xE2\x82a"), (2, 3));
+    assert_eq!(check(&run, b"a\xC3\xA9\xF0\x80"), (2, 3));
     assert_eq!(check(&run, &vec![b'x'; 65_536]), (0, 0));
     assert_eq!(check(&run, &vec![b'x'; 65_537]), (2, 65_536));
     assert_eq!(check(&run, &vec![0xFF; 65_537]), (2, 65_536));
+}
+
+#[test]
+fn refusal_12() {
+    let run = Record::new(RUN, 0).bytes();
+    assert_eq!(check(&run, b"a\xC3\xA9\xE2\x82"), (12, 3));
+    assert_eq!(check(&run[1..], b"\xC3"), (1, 0));
+    let mut case = drop_type(b"ge\xC3");
+    case.tree[0] = 0;
+    assert_eq!(answer(&case), (12, 2));
+    let mut longest = vec![b'x'; 65_536];
+    longest[65_535] = 0xC3;
+    assert_eq!(check(&run, &longest), (12, 65_535));
+    longest.insert(0, b'x');
+    assert_eq!(check(&run, &longest), (2, 65_536));
 }
 
 #[test]

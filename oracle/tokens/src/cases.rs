@@ -1,10 +1,11 @@
 //! The fixed list of append cases, and the two files made of it.
 
+use crate::encoding::text_in;
 use crate::judge::{spaced_after, text_of};
 use crate::random::Random;
 use crate::token::{known_numbers, Token};
 use crate::values::{
-    any_kind, blank, letter, of_length, random_token, wide, BLANKS, NOT_BLANK, WIDE,
+    any_kind, blank, letter, of_length, random_token, wide, BLANKS, BROKEN_ENDS, NOT_BLANK, WIDE,
 };
 use turso_parser::token::TokenType::{self, *};
 
@@ -15,6 +16,9 @@ pub const MOST_TOKENS: usize = 40;
 const SEED: u64 = 1;
 const RANDOM_STREAMS: usize = 600;
 const LONGEST_RANDOM_VALUE: usize = 200;
+
+/// Plain bytes before a broken end: none, and more than are looked at together.
+const PLAIN_BEFORE: [usize; 2] = [0, 300];
 
 /// The kinds that take no space before them or leave none after them.
 const CLOSE: [TokenType; 7] = [
@@ -44,27 +48,51 @@ pub fn all() -> Vec<Case> {
     cases
 }
 
-/// Per case: the number of tokens; per token: flags, value length, value.
-pub fn input_file(cases: &[Case]) -> Vec<u8> {
-    cases.iter().flat_map(|case| encoded(case)).collect()
+/// Values that are no text, which no token of the crate can have.
+pub fn broken_values() -> Vec<Vec<u8>> {
+    let behind = |plain: usize| BROKEN_ENDS.map(|end| [&vec![b'x'; plain], end].concat());
+    PLAIN_BEFORE.into_iter().flat_map(behind).collect()
 }
 
-/// Per case one line: the text in hex, and the bit.
-pub fn expected_file(cases: &[Case]) -> String {
-    cases.iter().map(|case| expected_line(case)).collect()
+/// Per case: the number of tokens; per token: flags, value length, value. Then a stream for each broken value.
+pub fn input_file(cases: &[Case], broken: &[Vec<u8>]) -> Vec<u8> {
+    let written = cases.iter().map(|case| encoded(case));
+    let refused = broken.iter().map(|value| encoded_around(value));
+    written.chain(refused).flatten().collect()
+}
+
+/// Per case one line: the text in hex, and the bit; or the refusal.
+pub fn expected_file(cases: &[Case], broken: &[Vec<u8>]) -> String {
+    let written = cases.iter().map(|case| expected_line(case));
+    let refused = broken.iter().map(|value| refused_line(value));
+    written.chain(refused).collect()
+}
+
+/// The line of a stream with a value that is refused: the refusal's number and place.
+fn refused_line(value: &[u8]) -> String {
+    let (number, place) = text_in(value).expect_err("a value that is no text");
+    format!("refused {number} {place}\n")
 }
 
 fn encoded(case: &[Token]) -> Vec<u8> {
     assert!(case.len() <= MOST_TOKENS);
-    let mut bytes = vec![case.len() as u8];
-    for token in case {
-        let value = token.value_bytes();
-        let length = u16::try_from(value.len()).expect("a value of two length bytes");
-        bytes.extend(token.flags().to_le_bytes());
-        bytes.extend(length.to_le_bytes());
-        bytes.extend(value);
-    }
-    bytes
+    let tokens = case
+        .iter()
+        .flat_map(|token| encoded_token(token.flags(), token.value_bytes()));
+    [case.len() as u8].into_iter().chain(tokens).collect()
+}
+
+/// A stream with this value between two others.
+fn encoded_around(value: &[u8]) -> Vec<u8> {
+    let tokens = [b"a", value, b"b"];
+    let flags = Token::id("").flags();
+    let encoded = tokens.iter().flat_map(|value| encoded_token(flags, value));
+    [tokens.len() as u8].into_iter().chain(encoded).collect()
+}
+
+fn encoded_token(flags: u16, value: &[u8]) -> Vec<u8> {
+    let length = u16::try_from(value.len()).expect("a value of two length bytes");
+    [&flags.to_le_bytes(), &length.to_le_bytes(), value].concat()
 }
 
 fn expected_line(case: &[Token]) -> String {

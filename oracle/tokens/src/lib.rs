@@ -1,6 +1,7 @@
 //! What the crate does with tokens: its spellings, what its stream writes, and lists to try.
 
 pub mod cases;
+pub mod encoding;
 pub mod judge;
 pub mod random;
 pub mod spellings;

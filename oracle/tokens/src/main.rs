@@ -17,10 +17,10 @@ fn main() {
 }
 
 fn write_cases(input: &str, expected: &str) {
-    let all = cases::all();
-    write(input, cases::input_file(&all));
-    write(expected, cases::expected_file(&all).into_bytes());
-    eprintln!("{} cases", all.len());
+    let (all, broken) = (cases::all(), cases::broken_values());
+    write(input, cases::input_file(&all, &broken));
+    write(expected, cases::expected_file(&all, &broken).into_bytes());
+    eprintln!("{} cases", all.len() + broken.len());
 }
 
 fn write(path: &str, bytes: Vec<u8>) {

@@ -33,6 +33,26 @@ pub const WIDE: [char; 22] = [
     '\u{10FFFF}',
 ];
 
+/// Ends that leave no text: cut off after one, two and three bytes of a character, then what no character begins with,
+/// then what is broken before the end.
+pub const BROKEN_ENDS: [&[u8]; 15] = [
+    b"\xC3",
+    b"\xE2",
+    b"\xE2\x82",
+    b"\xF0",
+    b"\xF0\x9F",
+    b"\xF0\x9F\x98",
+    b"\xC0",
+    b"\xE0\x9F",
+    b"\xED\xA0",
+    b"\xF0\x80",
+    b"\xF4\x90",
+    b"\xC3a",
+    b"\xE2\x82a",
+    b"\xF0\x9F\x98a",
+    b"\xC3\xE2\x82",
+];
+
 /// A value, or none, of at most `longest` bytes.
 pub fn random_value(random: &mut Random, longest: usize) -> Option<String> {
     match random.below(16) {

@@ -45,7 +45,7 @@ pub fn trees(program: &str) -> Vec<Stored> {
 
 /// A stored stream: number and value of each token, and the line that is expected for it.
 pub struct Tokens {
-    pub tokens: Vec<(u16, Option<String>)>,
+    pub tokens: Vec<(u16, Option<Vec<u8>>)>,
     pub expected: String,
 }
 
@@ -91,11 +91,10 @@ impl<'a> Rest<'a> {
     }
 
     /// Flags, with bit 15 for a value; its length; the value.
-    fn token(&mut self) -> (u16, Option<String>) {
+    fn token(&mut self) -> (u16, Option<Vec<u8>>) {
         const VALUE_PRESENT: u16 = 1 << 15;
         let (flags, length) = (self.short(), self.short());
-        let value = String::from_utf8(self.take(usize::from(length)).to_vec());
-        let value = value.expect("a value in UTF-8");
+        let value = self.take(usize::from(length)).to_vec();
         let present = flags & VALUE_PRESENT != 0;
         (flags & !VALUE_PRESENT, present.then_some(value))
     }

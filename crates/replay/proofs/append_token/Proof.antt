@@ -9,4 +9,5 @@ returns : tie.Need-returns
 returns c = omega (arith, had-room _ _ _ _ _ _ _ _ (c .before .before .before .step .ensures) (c .enum-told .given .1))
 
 pub append-token-spec : {M : Type 1} → statement M
-append-token-spec = tie.close (tie.spec (λ c κs. search needs) (λ c. search needs) returns (λ c. search needs))
+append-token-spec =
+    tie.close (tie.spec (λ c κs. search needs) (λ c. search needs) (λ c κs. search needs) (λ c κs. search needs) returns (λ c. search needs))

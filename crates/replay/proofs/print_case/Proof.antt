@@ -11,6 +11,6 @@ pub print-case-spec : {M : Type 1} → statement M
 print-case-spec =
     tie.close
     (tie.spec
-    (λ c. search needs) print-written-requires (λ c. search needs) (λ c. search needs) (λ c κs. search needs)
+    (λ c. search needs) print-written-requires (λ c. search needs) (λ c κs. search needs)
     (λ c. search needs) (λ c. search needs) (λ c κs. search needs) (λ c. search needs) (λ c. search needs)
     (λ c. search needs))

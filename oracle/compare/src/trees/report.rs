@@ -2,6 +2,7 @@
 
 use super::call::{Call, Outcome};
 use crate::hex::hex;
+use crate::report::{Numbers, ANSWERS};
 use model::damage::Case;
 use model::grammar::{row, Class, LIST, NONE, NUMBER, RUN, TEXT, TOKEN};
 use model::outline::outline;
@@ -9,9 +10,6 @@ use model::record::Record;
 use model::samples::Judged;
 use std::collections::{BTreeMap, BTreeSet};
 use std::fmt;
-
-/// How often each number of an answer came.
-pub type Numbers = [u64; 9];
 
 /// What was compared without a difference.
 #[derive(Default)]
@@ -116,11 +114,16 @@ impl fmt::Display for Counts {
 
 /// A table of how often each call gave each answer.
 pub fn answers(calls: &[(&str, &Numbers)]) -> String {
-    let mut table = "| Call | Calls | 0 | 1 | 2 | 3 | 4 | 5 | 6 | 7 | 8 |\n".to_string();
-    table += "|---|---|---|---|---|---|---|---|---|---|---|";
+    let heads = ANSWERS.map(|number| number.to_string()).join(" | ");
+    let mut table = format!(
+        "| Call | Calls | {heads} |\n|---|---|{}",
+        "---|".repeat(ANSWERS.len())
+    );
     for (call, numbers) in calls {
         let all = numbers.iter().sum();
-        let cells = [all].into_iter().chain(numbers.iter().copied());
+        let cells = [all]
+            .into_iter()
+            .chain(ANSWERS.map(|number| numbers[number]));
         let cells: Vec<String> = cells.map(told).collect();
         table += &format!("\n| {call} | {} |", cells.join(" | "));
     }
@@ -141,7 +144,7 @@ fn named(kind: u16) -> String {
 }
 
 /// With a comma before each three digits.
-fn told(number: u64) -> String {
+pub fn told(number: u64) -> String {
     let digits = number.to_string();
     let mut told = String::new();
     for (at, digit) in digits.chars().enumerate() {

@@ -14,14 +14,12 @@ use model::outline::outline;
 use model::record::{Record, MOST_BYTES};
 use std::slice::{from_raw_parts, from_raw_parts_mut};
 use std::sync::{LazyLock, RwLock};
+use tokens::encoding::{Refusal, CUT_OFF, NOT_UTF8};
 use tokens::token::Token;
 use turso_parser::token::TokenType::TK_COMMA;
 
 static GRAMMAR: LazyLock<RwLock<Grammar>> =
     LazyLock::new(|| RwLock::new(read(SOURCES).expect("entries that can be read")));
-
-/// Number and place.
-type Refusal = (u32, u32);
 
 /// The answer for a tree that faulty entries cannot write.
 const BROKEN: Refusal = (9, 0);
@@ -131,8 +129,9 @@ fn refusal(tree: &[u8], text: &[u8]) -> Refusal {
     let deepest = || outline(tree).iter().position(|node| node.depth == DEEPEST);
     match number {
         0 if planted(Fault::DepthOneLess) => deepest().map_or((0, 0), |index| (6, index as u32)),
-        0 if planted(Fault::LongestTextRefused) && text.len() == MOST_BYTES => (2, place),
+        0 if planted(Fault::LongestTextRefused) && text.len() == MOST_BYTES => (NOT_UTF8, place),
         0 if planted(Fault::LongestTreeRefused) && tree.len() == MOST_BYTES => (1, place),
+        NOT_UTF8 | CUT_OFF => stand_in::how_broken(text, (number, place)),
         3 if planted(Fault::WrongMarkTaken) => (4, place),
         5 if planted(Fault::PlaceInBytes) => (5, place * Record::new(0, 0).bytes().len() as u32),
         _ => (number, place),

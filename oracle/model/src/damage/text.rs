@@ -4,7 +4,7 @@ use super::Case;
 use crate::record::MOST_BYTES;
 use tokens::random::Random;
 
-/// Sequences that are not UTF-8, whatever follows.
+/// Sequences that are not UTF-8, whatever character follows. Some are cut off where nothing follows.
 pub const BAD: [&[u8]; 28] = [
     &[0x80],
     &[0xBF],

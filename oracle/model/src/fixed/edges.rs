@@ -7,6 +7,7 @@ use crate::damage::Case;
 use crate::grammar::{NUMBER, RUN, TEXT, TOKEN};
 use crate::grow;
 use crate::record::{Record, MOST_BYTES, MOST_RECORDS, SIZE, VALUE_PRESENT};
+use tokens::cases::broken_values;
 use tokens::random::Random;
 
 pub fn cases(random: &mut Random) -> Vec<Case> {
@@ -18,6 +19,7 @@ pub fn cases(random: &mut Random) -> Vec<Case> {
     cases.extend(numbers());
     cases.extend(parts());
     cases.extend(utf8());
+    cases.extend(broken_texts());
     cases.extend(depths(random));
     cases.extend(cut_and_left_over());
     cases.extend(limits(random));
@@ -167,6 +169,17 @@ fn utf8() -> Vec<Case> {
     ];
     let good = good.map(|text| drop_type(text.as_bytes()));
     bad.into_iter().chain(good).collect()
+}
+
+/// How a text is broken: cut off or never UTF-8, at its end or before it, and which refusal of two comes first.
+fn broken_texts() -> Vec<Case> {
+    let mut cases: Vec<Case> = broken_values().iter().map(|text| drop_type(text)).collect();
+    let cut_off = drop_type(b"ge\xC3");
+    let mut ragged = cut_off.clone();
+    ragged.tree.push(0);
+    cases.push(ragged);
+    cases.push(edited(&cut_off, 0, |record| record.mark = [0, 0]));
+    cases
 }
 
 fn depths(random: &mut Random) -> Vec<Case> {
