@@ -11,7 +11,8 @@
  *   0       done                                                                        length of the text;
  *                                                                                       append: bytes added
  *   1       the tree is empty, over 65536 bytes, or not a multiple of 16;               0
- *           append: the record is malformed, or its count past the end of out
+ *           append: the record is malformed, its count past the end of out, or
+ *           its line or its column larger than its count
  *   2       the text or value is over 65536 bytes (place 65536; tested first),          first byte that begins no
  *           or not UTF-8 and not cut off (12)                                           valid character
  *   3       wrong mark                                                                  record
@@ -51,11 +52,22 @@ uint64_t kinyandoma_measure(const uint8_t *tree, size_t tree_len, const uint8_t 
 uint64_t kinyandoma_render(const uint8_t *tree, size_t tree_len, const uint8_t *text, size_t text_len, uint8_t *out,
                            size_t out_len);
 
-/* One token, appended behind what a stream has written. `rec` is the stream record, 9 bytes: 0 or 1 (1 at the start),
- * then the count of bytes written so far, 8 bytes, little-endian. `token` is the token's number (bits 0-14), with bit 15
- * set where a value is present; `value` is that value, and its length is 0 where none is. On 0 the token's bytes are
- * written to out from the count on, nothing beyond them is changed, and the record is that of the longer stream. On a
- * refusal out and rec are as they were. */
+/* The bytes of a stream record. All numbers in it are little-endian.
+ *
+ *   byte    what
+ *   0       1 if the next token is written without a space before it, else 0; any other byte is malformed
+ *   1-8     count: the bytes written so far, at most the length of out
+ *   9-16    line: the newlines (0A) among them, so the line of the next byte, from 0; at most the count
+ *   17-24   column: the bytes behind the last newline, or all if there is none, so the column of the next byte, from 0;
+ *           at most the count
+ *
+ * A fresh record, of a stream that has written nothing, is 01 and 24 zeros. A record of any other length is malformed. */
+#define KINYANDOMA_RECORD 25
+
+/* One token, appended behind what a stream has written. `rec` is the stream record. `token` is the token's number (bits
+ * 0-14), with bit 15 set where a value is present; `value` is that value, and its length is 0 where none is. On 0 the
+ * token's bytes are written to out from the count on, nothing beyond them is changed, and the record is that of the longer
+ * stream: line and column are right whatever the value has in it. On a refusal out and rec are as they were. */
 uint64_t kinyandoma_append(uint8_t *rec, size_t rec_len, uint8_t *out, size_t out_len, uint16_t token,
                            const uint8_t *value, size_t value_len);
 

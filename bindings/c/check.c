@@ -1,15 +1,20 @@
 /* Calls the three functions of libkinyandoma.a on good and bad input, as a C program does.
  *
  * What is expected is document 01's: section 6 for the cases, section 3 for the numbers and places; 12 is document 02's,
- * request ii. Around every lent part stand known bytes, which must stay. One line a case, and `N passed, M failed` at the
- * end. */
+ * request ii, and line and column are its request ix. Around every lent part stand known bytes, which must stay. One line a
+ * case, and `N passed, M failed` at the end. */
 #include "kinyandoma.h"
 
 #include <stdio.h>
 #include <string.h>
 
 enum {
-    RECORD = 9,            /* bytes of a stream record */
+    RECORD = KINYANDOMA_RECORD,
+    LONGER = RECORD + 1,   /* a byte more than a record has */
+    COUNT = 1,             /* where a record's numbers begin */
+    LINE = 9,
+    COLUMN = 17,
+    NUMBER = 8,            /* bytes of each of them */
     MOST = 65536,          /* most bytes of a tree, a text or a value */
     GUARD = 32,            /* known bytes on each side of what is lent */
     ROOM = 1024,           /* most room that a case gives */
@@ -70,7 +75,7 @@ static int holds(const lent *part, const void *expected, size_t length) {
            untouched(part->bytes, GUARD + length, sizeof part->bytes);
 }
 
-/* ---- streams: section 6, S1 to S12 */
+/* ---- streams: section 6, S1 to S12, and values with newlines */
 
 typedef struct {
     uint16_t token;
@@ -79,7 +84,7 @@ typedef struct {
 
 typedef struct {
     const char *name;
-    token tokens[5];
+    token tokens[9];
     size_t count;
     const char *text;
 } stream_case;
@@ -97,26 +102,57 @@ static const stream_case STREAMS[] = {
     {"S10", {{TK_BEGIN, ""}, {TK_END, NULL}}, 2, "BEGINEND"},
     {"S11", {{TK_ID, "\x0B"}, {TK_ID, "a"}}, 2, "\x0B a"},
     {"S12", {{TK_LP, "z"}, {TK_ID, "b"}}, 2, "(z b"},
+    {"lines: a newline at the start", {{TK_ID, "\na"}, {TK_ID, "b"}}, 2, "\na b"},
+    {"lines: a newline at the end", {{TK_ID, "a\n"}, {TK_ID, "\n"}, {TK_ID, "b"}}, 3, "a\n \nb"},
+    {"lines: several in one value", {{TK_ID, "a\n\nbc\nd"}, {TK_COMMA, NULL}}, 2, "a\n\nbc\nd,"},
+    {"lines: 0D is none", {{TK_ID, "a\r\nb\rc"}}, 1, "a\r\nb\rc"},
+    {"lines: bytes are counted, not characters", {{TK_ID, "a\n\xC3\xA9\xE2\x82\xAC"}}, 1, "a\n\xC3\xA9\xE2\x82\xAC"},
+    {"lines: behind 70 bytes",
+     {{TK_ID, "0123456789012345678901234567890123456789012345678901234567890123456789\nx"}, {TK_END, "\n"}},
+     2,
+     "0123456789012345678901234567890123456789012345678901234567890123456789\nx END\n"},
+    {"lines: a trigger's commands",
+     {{TK_ID, "t"},
+      {TK_BEGIN, "\n"},
+      {TK_ID, "x"},
+      {TK_SEMI, "\n"},
+      {TK_ID, "y"},
+      {TK_SEMI, "\n"},
+      {TK_END, NULL},
+      {TK_SEMI, NULL}},
+     8,
+     "t BEGIN\nx;\ny;\nEND;"},
 };
 
-/* The count in a stream record. */
-static uint64_t count_of(const uint8_t *record) {
-    uint64_t count = 0;
-    for (int at = RECORD - 1; at > 0; at--) {
-        count = count << 8 | record[at];
+/* A number of a stream record. */
+static uint64_t number_at(const uint8_t *record, int place) {
+    uint64_t number = 0;
+    for (int at = place + NUMBER - 1; at >= place; at--) {
+        number = number << 8 | record[at];
     }
-    return count;
+    return number;
 }
 
-/* Appends one token, and tells whether the answer and the record's count fit together. */
+/* Whether a record says where a stream ends that has written just these bytes. */
+static int ends_behind(const uint8_t *record, const uint8_t *written, uint64_t count) {
+    uint64_t line = 0, column = 0;
+    for (uint64_t at = 0; at < count; at++) {
+        int newline = written[at] == '\n';
+        line += newline;
+        column = newline ? 0 : column + 1;
+    }
+    return number_at(record, COUNT) == count && number_at(record, LINE) == line && number_at(record, COLUMN) == column;
+}
+
+/* Appends one token, and tells whether the answer and the record fit together. */
 static int append_one(uint8_t *record, uint8_t *out, size_t room, token given) {
     static const uint8_t none[1] = {0};
     const uint8_t *value = given.value ? (const uint8_t *)given.value : none;
     size_t length = given.value ? strlen(given.value) : 0;
     uint16_t flags = given.value ? given.token | VALUE_PRESENT : given.token;
-    uint64_t before = count_of(record);
+    uint64_t before = number_at(record, COUNT);
     uint64_t added = kinyandoma_append(record, RECORD, out, room, flags, value, length);
-    return added >> 32 == 0 && count_of(record) == before + added;
+    return added >> 32 == 0 && ends_behind(record, out, before + added);
 }
 
 /* A whole stream in just the room that its text has. */
@@ -129,7 +165,7 @@ static void stream(const stream_case *c) {
     for (size_t at = 0; at < c->count; at++) {
         done &= append_one(record, out.bytes + GUARD, room, c->tokens[at]);
     }
-    tell(c->name, done && count_of(record) == room && holds(&out, c->text, room));
+    tell(c->name, done && number_at(record, COUNT) == room && holds(&out, c->text, room));
 }
 
 /* ---- refused appends: section 3, in the order 1, 4, 2 or 12, 8 */
@@ -138,7 +174,7 @@ static uint8_t long_value[MOST + 1];
 
 typedef struct {
     const char *name;
-    uint8_t record[RECORD];
+    uint8_t record[LONGER];
     size_t record_length;
     size_t room;
     uint16_t token;
@@ -149,44 +185,62 @@ typedef struct {
 } append_case;
 
 #define ID_VALUE (TK_ID | VALUE_PRESENT)
+/* A spaced record that has written something. */
+#define AFTER(count, line, column) \
+    { [0] = 1, [COUNT] = count, [LINE] = line, [COLUMN] = column }
 #define BYTES(text) (const uint8_t *)(text), sizeof(text) - 1
 
 static const append_case APPENDS[] = {
-    {"append: a record of 8 bytes is 1", {1}, 8, 4, ID_VALUE, BYTES("a"), 1, 0},
+    {"append: a record of 9 bytes, without line and column, is 1", {1}, 9, 4, ID_VALUE, BYTES("a"), 1, 0},
+    {"append: a record of a byte less is 1", {1}, RECORD - 1, 4, ID_VALUE, BYTES("a"), 1, 0},
+    {"append: a record of a byte more is 1", {1}, LONGER, 4, ID_VALUE, BYTES("a"), 1, 0},
     {"append: a record of no bytes is 1", {1}, 0, 4, ID_VALUE, BYTES("a"), 1, 0},
-    {"append: a record that begins with 2 is 1", {2}, 9, 4, ID_VALUE, BYTES("a"), 1, 0},
-    {"append: a count past the output is 1", {1, 5}, 9, 4, ID_VALUE, BYTES("a"), 1, 0},
-    {"append: a count of 2^64 - 1 is 1", {1, 255, 255, 255, 255, 255, 255, 255, 255}, 9, 4, ID_VALUE, BYTES("a"), 1, 0},
-    {"append: 1 comes before 4", {2}, 9, 4, NO_TOKEN, BYTES(""), 1, 0},
-    {"append: an unknown token is 4", {1}, 9, 4, NO_TOKEN, BYTES(""), 4, 0},
-    {"append: a value without bit 15 is 4", {1}, 9, 4, TK_ID, BYTES("a"), 4, 0},
-    {"append: 4 comes before 2", {1}, 9, 4, NO_TOKEN | VALUE_PRESENT, BYTES("\xFF"), 4, 0},
-    {"append: a byte FF is 2", {1}, 9, 4, ID_VALUE, BYTES("ab\xFF"), 2, 2},
-    {"append: an overlong form is 2", {1}, 9, 4, ID_VALUE, BYTES("a\xC0\x80"), 2, 1},
-    {"append: a surrogate is 2", {1}, 9, 4, ID_VALUE, BYTES("\xED\xA0\x80"), 2, 0},
-    {"append: over 10FFFF is 2", {1}, 9, 4, ID_VALUE, BYTES("\xF4\x90\x80\x80"), 2, 0},
-    {"append: F0 80 at the end is 2", {1}, 9, 4, ID_VALUE, BYTES("ab\xF0\x80"), 2, 2},
-    {"append: a character that another breaks off is 2", {1}, 9, 4, ID_VALUE, BYTES("a\xE2\x82z"), 2, 1},
-    {"append: a character cut off after a byte is 12", {1}, 9, 4, ID_VALUE, BYTES("ab\xC3"), 12, 2},
-    {"append: a character cut off after two bytes is 12", {1}, 9, 4, ID_VALUE, BYTES("ab\xE2\x82"), 12, 2},
-    {"append: a character cut off after three bytes is 12", {1}, 9, 4, ID_VALUE, BYTES("\xF0\x9F\x98"), 12, 0},
-    {"append: 65,537 bytes are 2, place 65,536", {1}, 9, 4, ID_VALUE, long_value, MOST + 1, 2, MOST},
-    {"append: 2 comes before 8", {1}, 9, 0, ID_VALUE, BYTES("a\xFF"), 2, 1},
-    {"append: 4 comes before 12", {1}, 9, 4, NO_TOKEN | VALUE_PRESENT, BYTES("\xC3"), 4, 0},
-    {"append: 12 comes before 8", {1}, 9, 0, ID_VALUE, BYTES("a\xC3"), 12, 1},
-    {"append: no room is 8", {1}, 9, 2, ID_VALUE, BYTES("abc"), 8, 3},
-    {"append: no room for the space is 8", {0, 1}, 9, 4, ID_VALUE, BYTES("abc"), 8, 4},
-    {"append: a count at the end is no 1 but 8", {1, 4}, 9, 4, ID_VALUE, BYTES("abc"), 8, 3},
+    {"append: a record that begins with 2 is 1", {2}, RECORD, 4, ID_VALUE, BYTES("a"), 1, 0},
+    {"append: a count past the output is 1", {1, 5}, RECORD, 4, ID_VALUE, BYTES("a"), 1, 0},
+    {"append: a count of 2^64 - 1 is 1", {1, 255, 255, 255, 255, 255, 255, 255, 255}, RECORD, 4, ID_VALUE, BYTES("a"), 1, 0},
+    {"append: a line past the count is 1", AFTER(2, 3, 0), RECORD, 4, ID_VALUE, BYTES("a"), 1, 0},
+    {"append: a column past the count is 1", AFTER(2, 0, 3), RECORD, 4, ID_VALUE, BYTES("a"), 1, 0},
+    {"append: a line in a fresh record is 1", AFTER(0, 1, 0), RECORD, 4, ID_VALUE, BYTES("a"), 1, 0},
+    {"append: a column of 2^64 - 1 is 1",
+     {[0] = 1, [COUNT] = 2, [COLUMN] = 255, 255, 255, 255, 255, 255, 255, 255},
+     RECORD,
+     4,
+     ID_VALUE,
+     BYTES("a"),
+     1,
+     0},
+    {"append: a line past the count comes before 4", AFTER(2, 3, 0), RECORD, 4, NO_TOKEN, BYTES(""), 1, 0},
+    {"append: line and column at the count are no 1 but 8", AFTER(2, 2, 2), RECORD, 4, ID_VALUE, BYTES("a\nb"), 8, 3},
+    {"append: 1 comes before 4", {2}, RECORD, 4, NO_TOKEN, BYTES(""), 1, 0},
+    {"append: an unknown token is 4", {1}, RECORD, 4, NO_TOKEN, BYTES(""), 4, 0},
+    {"append: a value without bit 15 is 4", {1}, RECORD, 4, TK_ID, BYTES("a"), 4, 0},
+    {"append: 4 comes before 2", {1}, RECORD, 4, NO_TOKEN | VALUE_PRESENT, BYTES("\xFF"), 4, 0},
+    {"append: a byte FF is 2", {1}, RECORD, 4, ID_VALUE, BYTES("ab\xFF"), 2, 2},
+    {"append: an overlong form is 2", {1}, RECORD, 4, ID_VALUE, BYTES("a\xC0\x80"), 2, 1},
+    {"append: a surrogate is 2", {1}, RECORD, 4, ID_VALUE, BYTES("\xED\xA0\x80"), 2, 0},
+    {"append: over 10FFFF is 2", {1}, RECORD, 4, ID_VALUE, BYTES("\xF4\x90\x80\x80"), 2, 0},
+    {"append: F0 80 at the end is 2", {1}, RECORD, 4, ID_VALUE, BYTES("ab\xF0\x80"), 2, 2},
+    {"append: a character that another breaks off is 2", {1}, RECORD, 4, ID_VALUE, BYTES("a\xE2\x82z"), 2, 1},
+    {"append: a character cut off after a byte is 12", {1}, RECORD, 4, ID_VALUE, BYTES("ab\xC3"), 12, 2},
+    {"append: a character cut off after two bytes is 12", {1}, RECORD, 4, ID_VALUE, BYTES("ab\xE2\x82"), 12, 2},
+    {"append: a character cut off after three bytes is 12", {1}, RECORD, 4, ID_VALUE, BYTES("\xF0\x9F\x98"), 12, 0},
+    {"append: 65,537 bytes are 2, place 65,536", {1}, RECORD, 4, ID_VALUE, long_value, MOST + 1, 2, MOST},
+    {"append: 2 comes before 8", {1}, RECORD, 0, ID_VALUE, BYTES("a\xFF"), 2, 1},
+    {"append: 4 comes before 12", {1}, RECORD, 4, NO_TOKEN | VALUE_PRESENT, BYTES("\xC3"), 4, 0},
+    {"append: 12 comes before 8", {1}, RECORD, 0, ID_VALUE, BYTES("a\xC3"), 12, 1},
+    {"append: no room is 8", {1}, RECORD, 2, ID_VALUE, BYTES("abc"), 8, 3},
+    {"append: no room for the space is 8", {0, 1}, RECORD, 4, ID_VALUE, BYTES("abc"), 8, 4},
+    {"append: a count at the end is no 1 but 8", {1, 4}, RECORD, 4, ID_VALUE, BYTES("abc"), 8, 3},
 };
 
 static void refused_append(const append_case *c) {
     lent out, record;
     prepare(&out);
     prepare(&record);
-    memcpy(record.bytes + GUARD, c->record, RECORD);
+    memcpy(record.bytes + GUARD, c->record, LONGER);
     uint64_t given = kinyandoma_append(record.bytes + GUARD, c->record_length, out.bytes + GUARD, c->room, c->token,
                                        c->value, c->value_length);
-    int stays = holds(&out, "", 0) && holds(&record, c->record, RECORD);
+    int stays = holds(&out, "", 0) && holds(&record, c->record, LONGER);
     tell(c->name, given == answer(c->number, c->place) && stays);
 }
 

@@ -9,7 +9,11 @@
 #include <string.h>
 
 enum {
-    RECORD = 9,
+    RECORD = KINYANDOMA_RECORD,
+    COUNT = 1,          /* where a record's numbers begin, each of so many bytes */
+    LINE = 9,
+    COLUMN = 17,
+    NUMBER = 8,
     HEAD = 6,           /* bytes of an input before tree and text, or record and value */
     BEFORE = 0xEE,      /* what stands in an output before a call */
     PLACES = 4096,      /* places told apart */
@@ -94,6 +98,28 @@ static void tree_calls(const uint8_t *data, size_t size, size_t split, size_t ro
     free(text);
 }
 
+/* A number of a stream record. */
+static uint64_t number_at(const uint8_t *record, int place) {
+    uint64_t number = 0;
+    for (int at = place + NUMBER - 1; at >= place; at--) {
+        number = number << 8 | record[at];
+    }
+    return number;
+}
+
+/* The record before was no malformed one, and that after it follows from it and the bytes that were added. */
+static void followed(const uint8_t *before, const uint8_t *after, const uint8_t *added, size_t length) {
+    uint64_t line = number_at(before, LINE), column = number_at(before, COLUMN);
+    hold(line <= number_at(before, COUNT) && column <= number_at(before, COUNT));
+    for (size_t at = 0; at < length; at++) {
+        int newline = added[at] == '\n';
+        line += newline;
+        column = newline ? 0 : column + 1;
+    }
+    hold(number_at(after, COUNT) == number_at(before, COUNT) + length);
+    hold(number_at(after, LINE) == line && number_at(after, COLUMN) == column);
+}
+
 static void append_call(const uint8_t *data, size_t size, uint16_t token, size_t room) {
     size_t record_len = size < RECORD ? size : RECORD;
     uint8_t *record = copied(data, record_len);
@@ -103,6 +129,8 @@ static void append_call(const uint8_t *data, size_t size, uint16_t token, size_t
     tell(1, answer);
     if (number(answer) != 0) {
         hold(untouched(out, 0, room) && memcmp(record, data, record_len) == 0);
+    } else {
+        followed(data, record, out + number_at(data, COUNT), place(answer));
     }
     hold(memcmp(value, data + record_len, size - record_len) == 0);
     free(record);

@@ -9,7 +9,8 @@ made=$(mktemp -d)
 trap 'rm -r "$made"' EXIT
 mkdir -p "$made/corpus" oracle/target/made
 
-# Each stored tree of up to 2,000 bytes, as the input that lends it.
+# Each stored tree of up to 2,000 bytes, as the input that lends it; and appends of an ID to a fresh record and to one that
+# has written two lines.
 python3 - crates/replay_text/stdin "$made/corpus" << 'EOF'
 import struct, sys
 data, at, name = open(sys.argv[1], "rb").read(), 0, 0
@@ -21,6 +22,11 @@ while at < len(data):
     if len(lent) <= 2000:
         head = struct.pack("<BHBBB", 0, tree, 40, 0, 0)
         open(f"{sys.argv[2]}/{name}", "wb").write(head + lent)
+for numbers in [(1, 0, 0, 0), (0, 9, 1, 3)]:
+    for value in [b"a\nbc", b"x" * 40]:
+        head = struct.pack("<BHBBB", 1, 60 | 0x8000, 80, 0, 0)
+        name += 1
+        open(f"{sys.argv[2]}/{name}", "wb").write(head + struct.pack("<BQQQ", *numbers) + value)
 EOF
 echo "inputs to begin with: $(ls "$made/corpus" | wc -l)"
 

@@ -1,7 +1,7 @@
 //! The calls of libkinyandoma.a, as include/kinyandoma.h declares them, and each as a safe function.
 
-/// The bytes of a stream record.
-pub const RECORD: usize = 9;
+/// The bytes of a stream record: the bit, then count, line and column.
+pub const RECORD: usize = 25;
 
 extern "C" {
     fn kinyandoma_measure(

@@ -49,7 +49,9 @@ pub struct Refusal {
 pub enum Reason {
     /// 1: the tree is empty, too long, or no whole number of records.
     TreeLength,
-    /// 1, append: the output is shorter than what the stream has written already.
+    /// 1, append: the output is shorter than what the stream has written already. The call refuses so, too, a record that
+    /// is not of 25 bytes, does not begin with 0 or 1, or whose line or column is larger than its count; a
+    /// [`Stream`](crate::Stream) never has such a record.
     StreamRecord,
     /// 2: the text or value is longer than 65,536 bytes.
     TextTooLong,
@@ -133,7 +135,8 @@ impl Reason {
                 "give one whole tree",
             ),
             Reason::StreamRecord => (
-                "the output is shorter than what the stream has written",
+                "the output is shorter than what the stream has written, or the stream record is malformed: it is no bit \
+                 with count, line and column, or its line or column is larger than its count",
                 "lend the same output, at its full length",
             ),
             Reason::TextTooLong => ("the text is longer than 65536 bytes", "shorten it"),

@@ -1,4 +1,5 @@
-//! The cases of document 01, section 6, and the refusals of section 3 that a caller of this crate can meet.
+//! The cases of document 01, section 6, the refusals of section 3 that a caller of this crate can meet, and line and column
+//! of document 02, request ix.
 
 use kinyandoma::{measure, render, render_to_string, Kind, Node, Reason, Run, Stream, Token};
 
@@ -69,6 +70,44 @@ fn streams_s1_to_s12() {
             stream.append_to_vec(*token, *value, &mut out).unwrap();
         }
         assert_eq!(out, expected.as_bytes(), "{tokens:?}");
+        assert_eq!((stream.line(), stream.column()), end_of(expected));
+    }
+}
+
+/// Line and column behind a text.
+fn end_of(text: &str) -> (usize, usize) {
+    let last = text.rsplit('\n').next().unwrap_or_default();
+    (text.matches('\n').count(), last.len())
+}
+
+/// Request ix: right after every append, whatever value it wrote.
+#[test]
+fn line_and_column_follow_every_append() {
+    const VALUES: [&str; 9] = [
+        "\n",
+        "a",
+        "\n\n",
+        "a\nb",
+        "\nb",
+        "b\n",
+        "",
+        "\u{E9}\n\u{20AC}",
+        "\r",
+    ];
+    let long = format!("{}\n{}", "x".repeat(70), "y".repeat(20));
+    let (mut stream, mut out) = (Stream::new(), Vec::new());
+    assert_eq!((stream.line(), stream.column()), (0, 0));
+    for token in [
+        Token::TK_ID,
+        Token::TK_BEGIN,
+        Token::TK_SEMI,
+        Token::TK_BLOB,
+    ] {
+        for value in VALUES.into_iter().map(Some).chain([None, Some(&long[..])]) {
+            stream.append_to_vec(token, value, &mut out).unwrap();
+            let text = std::str::from_utf8(&out).unwrap();
+            assert_eq!((stream.line(), stream.column()), end_of(text), "{text:?}");
+        }
     }
 }
 
@@ -208,6 +247,7 @@ fn refused_appends_change_nothing() {
         assert_eq!((refusal.number, refusal.place), (number, place));
     }
     assert_eq!(stream, before);
+    assert_eq!((stream.line(), stream.column()), (0, 3));
     assert_eq!(&out, b"abc.....");
     assert_eq!(stream.append(60, Some("d"), &mut out), Ok(2));
     assert_eq!(&out, b"abc d...");
@@ -222,4 +262,8 @@ fn a_refused_append_leaves_the_vector() {
     assert_eq!(out, b"a");
     let refusal = stream.append_to_vec(60, None, &mut Vec::new()).unwrap_err();
     assert_eq!(refusal.reason, Reason::StreamRecord);
+    let told = "refused with 1, place 0: the output is shorter than what the stream has written, or the stream record is \
+                malformed: it is no bit with count, line and column, or its line or column is larger than its count; \
+                lend the same output, at its full length";
+    assert_eq!(refusal.to_string(), told);
 }

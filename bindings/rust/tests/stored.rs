@@ -2,14 +2,14 @@
 
 mod common;
 
-use common::{hex, streams, trees, Stored};
+use common::{hex, streams, trees, Stored, Tokens};
 use kinyandoma::{measure, render, render_to_string, render_to_vec, Refusal, Stream};
 use std::str::from_utf8;
 
 /// What stands in an output before.
 const BEFORE: u8 = 0xEE;
-/// The line of a stream with a value that is no text.
-const REFUSED: &str = "refused";
+/// How the line of a stream with a value that is no text begins.
+const REFUSED: &str = "refused ";
 
 /// `NUMBER PLACE`; a reader is told both, and more.
 fn refused(refusal: Refusal) -> String {
@@ -83,7 +83,7 @@ fn every_text_is_a_string() {
 fn streams_are_written_as_stored() {
     let stored = streams();
     assert!(stored.len() > 1000, "{} streams", stored.len());
-    for case in stored.iter().filter(|case| case.expected != REFUSED) {
+    for case in stored.iter().filter(|case| !is_refused(case)) {
         let (mut stream, mut grown) = (Stream::new(), Vec::new());
         let (mut same, mut lent) = (Stream::new(), vec![BEFORE; case.expected.len()]);
         for (token, value) in &case.tokens {
@@ -96,16 +96,32 @@ fn streams_are_written_as_stored() {
         assert_eq!(stream, same);
         assert_eq!(stream.written(), grown.len());
         assert_eq!(grown, lent[..grown.len()]);
-        let line = format!("{} {}", hex(&grown), u8::from(stream.spaced()));
-        assert_eq!(line, case.expected, "{:?}", case.tokens);
+        assert_eq!(
+            stream_line(&stream, &grown),
+            case.expected,
+            "{:?}",
+            case.tokens
+        );
     }
+}
+
+/// Whether the list has a refusal for the stream.
+fn is_refused(case: &Tokens) -> bool {
+    case.expected.starts_with(REFUSED)
+}
+
+/// The line of a stream that has written these bytes: `HEXTEXT BIT LINE COLUMN`.
+fn stream_line(stream: &Stream, text: &[u8]) -> String {
+    let bit = u8::from(stream.spaced());
+    let (line, column) = (stream.line(), stream.column());
+    format!("{} {bit} {line} {column}", hex(text))
 }
 
 /// A stream of this crate takes strings, so that none of these values can be given to it.
 #[test]
 fn refused_streams_have_a_value_that_is_no_string() {
     let stored = streams();
-    let refused = stored.iter().filter(|case| case.expected == REFUSED);
+    let refused = stored.iter().filter(|case| is_refused(case));
     let broken = |value: &Option<Vec<u8>>| value.as_ref().is_some_and(|v| from_utf8(v).is_err());
     assert_eq!(refused.clone().count(), 30);
     for case in refused {

@@ -1,8 +1,8 @@
--- 01, sections 1, 3 and 9: what append answers, the record that it leaves and the bytes that it writes.
+-- 01, sections 1, 3 and 9, and 02, ix: what append answers, the record that it leaves and the bytes that it writes.
 use Prim.Native.Nat.{ℕ, _+_, _-_, _*_, _%_, _^_}
 use mathlib.Core.Path.{_≡_}
 use mathlib.Core.List.{List, [], _∷_, _++_}
-use mathlib.Core.Bool.{Bool, not, _&&_}
+use mathlib.Core.Bool.{Bool, not, _&&_, _||_}
 use lib.Dec.{leb, ltb, eqb}
 use lib.ListN.{length, take, drop}
 use Rattle.laws.specs.First.{first}
@@ -12,6 +12,7 @@ use Rattle.utf8.specs.declared.Encoding.{Encoding}
 use Rattle.spelling.specs.Spelling.{known}
 use Rattle.stream.specs.Stream.{Token, adds, leaves}
 use Rattle.stream.specs.Sink.{given}
+use Rattle.position.specs.Position.{lines, column}
 use Rattle.append.specs.declared.Stream.{Stream}
 use Rattle.append.specs.declared.Answer.{Answer}
 use Rattle.append.specs.declared.Answer.the-variants.{Added, Malformed, Unknown, TooLong, Broken, NoRoom}
@@ -37,10 +38,14 @@ longest = 65536
 unfoldable pub broken : Encoding → Bool
 broken e = not (eqb (utf8.number e) 0)
 
+-- 1: "its count past the output's end", and 02, ix: "if the line or the column is larger than the count of bytes written"
+unfoldable pub unsound : Stream → ℕ → Bool
+unsound rec size = ltb size (rec .count) || (ltb (rec .count) (rec .line) || ltb (rec .count) (rec .column))
+
 -- "the first fitting refusal" and "Append checks 1, 4, 2, 8." The first three, for an output of so many bytes; e is what the encoding check answers
 unfoldable pub before : Encoding → Stream → ℕ → ℕ → List ℕ → List (Bool × Answer)
 before e rec size token value =
-    (ltb size (rec .count), Malformed)
+    (unsound rec size, Malformed)
     ∷ (not (known (numberOf token)), Unknown)
     ∷ (not (present token) && ltb 0 (length value), Unknown)
     ∷ (ltb longest (length value), TooLong)
@@ -55,9 +60,15 @@ unfoldable pub answerTo : Encoding → Stream → List ℕ → ℕ → List ℕ 
 answerTo e rec out token value =
     first (before e rec (length out) token value) (room rec (length out) (length (news rec token value)))
 
--- a refusal leaves the record as it was
+-- the bit, the count, and where the bytes end: their newlines are more lines, and the column goes on through them. A refusal leaves the record as it was
 unfoldable pub recordAfter : Answer → Stream → ℕ → List ℕ → Stream
-recordAfter (Added n) rec token value = record { spaced = leaves (rec .spaced) (tokenOf token value); count = rec .count + n }
+recordAfter (Added n) rec token value =
+    record {
+      spaced = leaves (rec .spaced) (tokenOf token value);
+      count = rec .count + n;
+      line = rec .line + lines (news rec token value);
+      column = column (rec .column) (news rec token value);
+    }
 recordAfter Malformed rec token value = rec
 recordAfter Unknown rec token value = rec
 recordAfter TooLong rec token value = rec

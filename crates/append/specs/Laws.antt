@@ -3,7 +3,7 @@ use Prim.Native.Nat.{ℕ, _+_, _-_, _^_, _≤_, _<_}
 use native.Mathlib.Omega.{arith}
 use mathlib.Core.Path.{_≡_, refl, _∙_, ap, sym}
 use mathlib.Core.List.{List, [], _∷_}
-use mathlib.Core.Bool.{Bool, true, false, not, cond, _&&_, and-false}
+use mathlib.Core.Bool.{Bool, true, false, not, cond, _&&_, _||_, and-false}
 use lib.Dec.{ltb}
 use lib.ListN.{length}
 use lib.Seq.{sets-eq}
@@ -17,6 +17,7 @@ use Rattle.utf8.specs.Decided.{decided}
 use Rattle.utf8.specs.declared.Encoding.{Encoding}
 use Rattle.utf8.specs.declared.Encoding.the-variants.{Valid}
 use Rattle.spelling.specs.Spelling.{known, spelling}
+use Rattle.laws.specs.Tests.{or-left, or-right}
 use Rattle.laws.specs.First.{first, within, first-some, first-none, all-passed}
 use Rattle.stream.specs.Stream.{added, adds, leaves}
 use Rattle.stream.specs.Sink.{State, most, pour, mark, step, given}
@@ -27,52 +28,73 @@ use Rattle.append.specs.declared.Answer.{Answer}
 use Rattle.append.specs.declared.Answer.the-variants.{Added, Malformed, Unknown, TooLong, Broken, NoRoom}
 use Rattle.append.specs.declared.Check.{Check}
 use Rattle.append.specs.declared.Check.the-variants.{Fine, Refused}
-use Rattle.append.specs.Append.{Appends, numberOf, present, tokenOf, news, longest, broken, before, room, answerTo, recordAfter, outputAfter, number, place}
-use Rattle.append.specs.Steps.{Checks, Ample, roomTest, andRoom, Verdict, Writes, emitted, counted}
+use Rattle.append.specs.Ends.{token-lines, token-column, token-longer}
+use Rattle.append.specs.Append.{Appends, numberOf, present, tokenOf, news, longest, broken, unsound, before, room, answerTo, recordAfter, outputAfter, number, place}
+use Rattle.append.specs.Steps.{Checks, Ample, roomTest, andRoom, Verdict, Writes, emitted, counted, movedTo, Ready}
 
 -- no bytes are a text
 no-bytes : (v : List ℕ) → length v ≡ 0 → Text v
 no-bytes [] e = none
 no-bytes (x ∷ v) e = absurd (suc-ne-zero (length v) e)
 
+-- ---- a record that appends leave
+pub record Sound (rec : Stream) (size : ℕ) : Type 0 where
+  pub within : rec .count ≤ size
+  pub line : rec .line ≤ rec .count
+  pub column : rec .column ≤ rec .count
+
+pub is-sound : (rec : Stream) (size : ℕ) → unsound rec size ≡ false → Sound rec size
+unfolding unsound
+is-sound rec size e =
+    let rest = or-right (ltb size (rec .count)) (ltb (rec .count) (rec .line) || ltb (rec .count) (rec .column)) e in
+    record {
+      within = ltb-false size (rec .count) (or-left (ltb size (rec .count)) _ e);
+      line = ltb-false (rec .count) (rec .line) (or-left (ltb (rec .count) (rec .line)) (ltb (rec .count) (rec .column)) rest);
+      column = ltb-false (rec .count) (rec .column) (or-right (ltb (rec .count) (rec .line)) (ltb (rec .count) (rec .column)) rest);
+    }
+
+pub sound-is : (rec : Stream) (size : ℕ) → Sound rec size → unsound rec size ≡ false
+unfolding unsound
+sound-is rec size s = rw (le-ltb size (rec .count) (s .within), le-ltb (rec .count) (rec .line) (s .line), le-ltb (rec .count) (rec .column) (s .column))
+
 -- ---- the refusals 1, 4, 2: each return is the first condition that holds
 module _ (rec : Stream) (size token : ℕ) (value : List ℕ) where
   any : (r : Check) → ((e : Encoding) → r ≡ first (within Refused (before e rec size token value)) Fine) → Checks rec size token value r
   any r is = let d = decided value in record { encoding = d .0; encoded = d .1; is = is (d .0) }
 
-  pub malformed : size < rec .count → Checks rec size token value (Refused Malformed)
+  pub malformed : unsound rec size ≡ true → Checks rec size token value (Refused Malformed)
   unfolding before
-  malformed h = any (Refused Malformed) (λ e. rw (lt-ltb size (rec .count) h))
+  malformed h = any (Refused Malformed) (λ e. rw h)
 
-  module _ (k : Bool) (c : rec .count ≤ size) (is-known : k ≡ known (numberOf token)) where
+  module _ (k : Bool) (c : unsound rec size ≡ false) (is-known : k ≡ known (numberOf token)) where
     pub unknown : not k ≡ true → Checks rec size token value (Refused Unknown)
     unfolding before
-    unknown h = any (Refused Unknown) (λ e. rw (le-ltb size (rec .count) c, ← is-known, h))
+    unknown h = any (Refused Unknown) (λ e. rw (c, ← is-known, h))
 
     -- no value bytes, no more to refuse
     pub empty : not k ≡ false → length value ≡ 0 → Checks rec size token value Fine
     unfolding before broken
     empty kn z =
-        record { encoding = Valid; encoded = no-bytes value z; is = rw (le-ltb size (rec .count) c, ← is-known, kn, z, and-false) }
+        record { encoding = Valid; encoded = no-bytes value z; is = rw (c, ← is-known, kn, z, and-false) }
 
     module _ (p : Bool) (kn : not k ≡ false) (is-present : p ≡ present token) where
       pub stray : not p ≡ true → (length value ≡ 0 → ⊥) → Checks rec size token value (Refused Unknown)
       unfolding before
-      stray h s = any (Refused Unknown) (λ e. rw (le-ltb size (rec .count) c, ← is-known, kn, ← is-present, h, lt-ltb 0 (length value) (omega arith)))
+      stray h s = any (Refused Unknown) (λ e. rw (c, ← is-known, kn, ← is-present, h, lt-ltb 0 (length value) (omega arith)))
 
       module _ (st : not p ≡ false) where
         pub too-long : longest < length value → Checks rec size token value (Refused TooLong)
         unfolding before
-        too-long h = any (Refused TooLong) (λ e. rw (le-ltb size (rec .count) c, ← is-known, kn, ← is-present, st, lt-ltb longest (length value) h))
+        too-long h = any (Refused TooLong) (λ e. rw (c, ← is-known, kn, ← is-present, st, lt-ltb longest (length value) h))
 
         module _ (e : Encoding) (m : ℕ) (l : length value ≤ longest) (en : Encoded value e) (is : m ≡ utf8.number e) where
           pub ill : (m ≡ 0 → ⊥) → Checks rec size token value (Refused (Broken e))
           unfolding before broken
-          ill h = record { encoding = e; encoded = en; is = rw (le-ltb size (rec .count) c, ← is-known, kn, ← is-present, st, le-ltb longest (length value) l, ← is, ne-eqb m 0 h) }
+          ill h = record { encoding = e; encoded = en; is = rw (c, ← is-known, kn, ← is-present, st, le-ltb longest (length value) l, ← is, ne-eqb m 0 h) }
 
           pub fine : m ≡ 0 → Checks rec size token value Fine
           unfolding before broken
-          fine h = record { encoding = e; encoded = en; is = rw (le-ltb size (rec .count) c, ← is-known, kn, ← is-present, st, le-ltb longest (length value) l, ← is, eq-eqb m 0 h) }
+          fine h = record { encoding = e; encoded = en; is = rw (c, ← is-known, kn, ← is-present, st, le-ltb longest (length value) l, ← is, eq-eqb m 0 h) }
 
 -- ---- the bytes
 pub emits : (x : State) (b p : Bool) (at : ℕ) (out value word : List ℕ) (token k : ℕ) → k ≡ numberOf token → p ≡ present token
@@ -128,25 +150,51 @@ no-room rec out token value n e h =
     record { answers = rw (← e, lt-ltb (length out - rec .count) n h); leave = refl; writes = refl }
 
 -- ---- the bytes behind the count
-pub put-all : (rec : Stream) (out : List ℕ) (token : ℕ) (word value : List ℕ) (x : State) → rec .count ≤ length out → word ≡ spelling (numberOf token)
-    → length (news rec token value) ≤ length out - rec .count → length out ≤ most → x ≡ emitted (rec .spaced) (rec .count) out token word value
-    → (x .0 .at ≡ rec .count + length (news rec token value))
-    × Writes rec out token value (Added (x .0 .at - rec .count)) (record { spaced = x .0 .spaced; count = x .0 .at }) (x .1)
-unfolding room recordAfter outputAfter emitted step mark pour news adds leaves tokenOf
-put-all rec out token word value x c w h m q =
-    let p = rw w at q in
-    let new = news rec token value in
-    let at = rec .count in
-    let fits : at + length new ≤ length out = omega arith in
-    let counted : x .0 .at ≡ at + length new = ap (λ (s : State). s .0 .at) p ∙ count-fits at (length new) (omega arith) in
-    let n : x .0 .at - at ≡ length new = omega arith in (
-      counted,
+module _ (rec : Stream) (out : List ℕ) (token : ℕ) (word value : List ℕ) (x : State) (ready : Ready rec out token word value) (held : length out ≤ most)
+    (emits : x ≡ emitted (rec .spaced) (rec .count) out token word value) where
+  sound : Sound rec (length out)
+  sound = is-sound rec (length out) (ready .sound)
+
+  put-state : x ≡ emitted (rec .spaced) (rec .count) out token (spelling (numberOf token)) value
+  put-state = rw (ready .spells) at emits
+
+  pub put-counts : x .0 .at ≡ rec .count + length (news rec token value)
+  unfolding emitted step mark pour news adds tokenOf
+  put-counts =
+      let fits = ready .fits in
+      let within = sound .within in
+      ap (λ (s : State). s .0 .at) put-state ∙ count-fits (rec .count) (length (news rec token value)) (omega arith)
+
+  -- what is asked of the record before it is moved on
+  pub put-moves : (rec .count ≤ x .0 .at) × ((rec .line ≤ rec .count) × ((rec .column ≤ rec .count) × (length value ≤ x .0 .at - rec .count)))
+  unfolding news
+  put-moves = (omega (arith, put-counts), (sound .line, (sound .column, omega (arith, put-counts, token-longer (rec .spaced) token value (ready .lent)))))
+
+  left-is : movedTo rec (x .0) value ≡ recordAfter (Added (length (news rec token value))) rec token value
+  unfolding movedTo recordAfter emitted step mark pour news adds leaves tokenOf
+  left-is =
+      let n = length (news rec token value) in
+      let d : x .0 .at - rec .count ≡ n = omega (arith, put-counts) in
+      rw (
+        d,
+        put-counts,
+        ap (λ (s : State). s .0 .spaced) put-state,
+        token-lines (rec .spaced) token value (ready .lent),
+        token-column (rec .spaced) token value (ready .lent) (rec .column),
+      )
+
+  pub put-all : (left : Stream) → left ≡ movedTo rec (x .0) value → Writes rec out token value (Added (x .0 .at - rec .count)) left (x .1)
+  unfolding room outputAfter emitted step mark pour news adds tokenOf
+  put-all left e =
+      let new = news rec token value in
+      let n : x .0 .at - rec .count ≡ length new = omega (arith, put-counts) in
+      let fits = ready .fits in
+      let within = sound .within in
       record {
-        answers = rw (n, le-ltb (length out - at) (length new) h);
-        leave = rw (n, counted) (ap (λ (s : State). record { spaced = s .0 .spaced; count = at + length new }) p);
-        writes = rw n (ap (λ (s : State). s .1) p ∙ sets-eq new out at fits);
-      },
-    )
+        answers = rw (n, le-ltb (length out - rec .count) (length new) fits);
+        leave = rw n (e ∙ left-is);
+        writes = rw n (ap (λ (s : State). s .1) put-state ∙ sets-eq new out (rec .count) (omega arith));
+      }
 
 -- ---- the first fitting refusal, and where there is none
 same-refusal : (a b : Answer) → Refused a ≡ Refused b → a ≡ b
@@ -194,10 +242,16 @@ accepted rec out token value r a rec′ out′ c e w =
     let f = first-none Refused Fine same-refusal not-fine (before k rec (length out) token value) (room rec (length out) (length (news rec token value))) (sym e ∙ c .is) in
     record { encoding = k; encoded = c .encoded; answers = w .answers ∙ sym f; leave = w .leave; writes = w .writes }
 
-pub room-known : (rec : Stream) (size token : ℕ) (value : List ℕ) (r : Check) → Checks rec size token value r → r ≡ Fine → rec .count ≤ size
+-- none of them fits
+passed : (rec : Stream) (size token : ℕ) (value : List ℕ) (r : Check) → Checks rec size token value r → r ≡ Fine
+    → (unsound rec size ≡ false) × (not (present token) && ltb 0 (length value) ≡ false)
 unfolding before
-room-known rec size token value r c e =
-    ltb-false size (rec .count) (all-passed Refused Fine same-refusal not-fine (before (c .encoding) rec size token value) (sym e ∙ c .is) .0)
+passed rec size token value r c e =
+    let p = all-passed Refused Fine same-refusal not-fine (before (c .encoding) rec size token value) (sym e ∙ c .is) in
+    (p .0, p .1 .1 .0)
+
+pub room-known : (rec : Stream) (size token : ℕ) (value : List ℕ) (r : Check) → Checks rec size token value r → r ≡ Fine → rec .count ≤ size
+room-known rec size token value r c e = is-sound rec size (passed rec size token value r c e .0) .within
 
 -- ---- the first fitting one of all refusals
 pub early-refused : (rec : Stream) (size token : ℕ) (value : List ℕ) (r : Check) (a : Answer) → Checks rec size token value r → r ≡ Refused a → Verdict rec size token value (Refused a)
@@ -239,11 +293,12 @@ none-fits rec size token value r v e = by (v .early) (v .checks) (v .is)
     by (Refused b) c is = absurd (not-fine b (sym is ∙ e))
     by Fine c is = (c, sym e ∙ is)
 
-pub all-room : (rec : Stream) (out : List ℕ) (token : ℕ) (value : List ℕ) (r : Check) → Verdict rec (length out) token value r → r ≡ Fine
-    → (rec .count ≤ length out) × (length (news rec token value) ≤ length out - rec .count)
-all-room rec out token value r v e =
+pub all-ready : (rec : Stream) (out : List ℕ) (token : ℕ) (word value : List ℕ) (r : Check) → word ≡ spelling (numberOf token) → Verdict rec (length out) token value r → r ≡ Fine
+    → Ready rec out token word value
+all-ready rec out token word value r w v e =
     let f = none-fits rec (length out) token value r v e in
-    (room-known rec (length out) token value Fine (f .0) refl, by (ltb (length out - rec .count) n) refl (f .1))
+    let p = passed rec (length out) token value Fine (f .0) refl in
+    record { sound = p .0; spells = w; lent = p .1; fits = by (ltb (length out - rec .count) n) refl (f .1) }
   where
     n : ℕ
     n = length (news rec token value)
@@ -289,7 +344,7 @@ either false x y p q = q
 answer-small : (e : Encoding) (rec : Stream) (out : List ℕ) (token : ℕ) (value : List ℕ) → Encoded value e → Small (answerTo e rec out token value)
 unfolding answerTo before room news tokenOf
 answer-small e rec out token value h =
-    either (ltb (length out) (rec .count)) _ _ (omega arith)
+    either (unsound rec (length out)) _ _ (omega arith)
     (either (not (known (numberOf token))) _ _ (omega arith)
     (either (not (present token) && ltb 0 (length value)) _ _ (omega arith) (by (ltb longest (length value)) refl)))
   where

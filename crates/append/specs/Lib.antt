@@ -1,4 +1,5 @@
 pub mod Append
 pub mod Steps
+pub mod Ends
 pub mod Laws
 pub mod Lists

@@ -1,6 +1,6 @@
 -- Tokens appended one after another: what a list of appends that all succeed comes to, and that it does succeed where no refusal fits.
 -- Each append takes up where the one before left off, so the bytes are those of `text` from the record's bit on, behind what stood there, and the
--- bit is theirs. The facts are of the record's fields, so that a record with more of them says the same.
+-- bit is theirs, and so are the lines and the column that they end in.
 use Prim.Native.Nat.{ℕ, _+_, _-_, _≤_, _<_}
 use native.Mathlib.Omega.{arith}
 use native.Mathlib.Nat.{add-zero}
@@ -20,7 +20,10 @@ use Rattle.stream.specs.Stream.{Token, adds, leaves, text, bit}
 use Rattle.append.specs.declared.Stream.{Stream}
 use Rattle.append.specs.declared.Answer.{Answer}
 use Rattle.append.specs.declared.Answer.the-variants.{Added, Malformed, Unknown, TooLong, Broken, NoRoom}
-use Rattle.append.specs.Append.{Appends, numberOf, present, tokenOf, news, longest, broken, before, room, answerTo, recordAfter, outputAfter, number}
+use Rattle.position.specs.Position.{lines, column}
+use Rattle.position.specs.Laws.{lines-append, column-append, lines-length, column-length}
+use Rattle.append.specs.Laws.{is-sound, sound-is}
+use Rattle.append.specs.Append.{Appends, numberOf, present, tokenOf, news, longest, broken, unsound, before, room, answerTo, recordAfter, outputAfter, number}
 
 -- a token word and value bytes, as they are lent
 abbrev pub Lent : Type 0
@@ -39,41 +42,54 @@ pub data AppendsAll : Stream → List ℕ → List Lent → Stream → List ℕ 
   one : {rec mid rec′ : Stream} {out o out′ : List ℕ} {l : Lent} {ls : List Lent} {n : ℕ}
       → Appends rec out (l .0) (l .1) (Added n) mid o → AppendsAll mid o ls rec′ out′ → AppendsAll rec out (l ∷ ls) rec′ out′
 
--- the tokens' text stands behind the count, their bit is left, and so many bytes are counted
+-- the tokens' text stands behind the count, their bit is left, so many bytes are counted, and line and column are where the text ends
 pub record Appended (rec : Stream) (out : List ℕ) (ts : List Token) (rec′ : Stream) (out′ : List ℕ) : Type 0 where
   pub spaced : rec′ .spaced ≡ bit (rec .spaced) ts
   pub count : rec′ .count ≡ rec .count + length (text (rec .spaced) ts)
+  pub line : rec′ .line ≡ rec .line + lines (text (rec .spaced) ts)
+  pub column : rec′ .column ≡ column (rec .column) (text (rec .spaced) ts)
   pub writes : out′ ≡ take (rec .count) out ++ text (rec .spaced) ts ++ drop (rec′ .count) out
+
+-- a record that appends leave: its line and its column are each within the count
+pub record Held (rec : Stream) : Type 0 where
+  pub line : rec .line ≤ rec .count
+  pub column : rec .column ≤ rec .count
 
 -- ---- one append that succeeds
 pub record Succeeds (rec : Stream) (out : List ℕ) (t : Token) (rec′ : Stream) (out′ : List ℕ) : Type 0 where
   pub fits : rec′ .count ≤ length out
+  pub was : Held rec
   pub spaced : rec′ .spaced ≡ leaves (rec .spaced) t
   pub count : rec′ .count ≡ rec .count + length (adds (rec .spaced) t)
+  pub line : rec′ .line ≡ rec .line + lines (adds (rec .spaced) t)
+  pub column : rec′ .column ≡ column (rec .column) (adds (rec .spaced) t)
   pub writes : out′ ≡ take (rec .count) out ++ adds (rec .spaced) t ++ drop (rec′ .count) out
 
 -- no number is 0 but that of success
 passed : (e : Encoding) (rec : Stream) (out : List ℕ) (token : ℕ) (value : List ℕ) → number (answerTo e rec out token value) ≡ 0
-    → (rec .count + length (news rec token value) ≤ length out) × (answerTo e rec out token value ≡ Added (length (news rec token value)))
+    → (rec .count + length (news rec token value) ≤ length out) × (answerTo e rec out token value ≡ Added (length (news rec token value))) × Held rec
 unfolding answerTo before room broken
 passed e rec out token value =
-    by (ltb (length out) (rec .count)) (not (known (numberOf token))) (not (present token) && ltb 0 (length value)) (ltb longest (length value)) (eqb (utf8.number e) 0)
+    by (unsound rec (length out)) (not (known (numberOf token))) (not (present token) && ltb 0 (length value)) (ltb longest (length value)) (eqb (utf8.number e) 0)
     (ltb (length out - rec .count) n) refl refl refl
   where
     n : ℕ
     n = length (news rec token value)
 
-    by : (a b c d g f : Bool) → ltb (length out) (rec .count) ≡ a → eqb (utf8.number e) 0 ≡ g → ltb (length out - rec .count) n ≡ f
+    by : (a b c d g f : Bool) → unsound rec (length out) ≡ a → eqb (utf8.number e) 0 ≡ g → ltb (length out - rec .count) n ≡ f
         → number (cond a Malformed (cond b Unknown (cond c Unknown (cond d TooLong (cond (not g) (Broken e) (cond f (NoRoom n) (Added n))))))) ≡ 0
         → (rec .count + n ≤ length out)
         × (cond a Malformed (cond b Unknown (cond c Unknown (cond d TooLong (cond (not g) (Broken e) (cond f (NoRoom n) (Added n)))))) ≡ Added n)
+        × Held rec
     by true b c d g f p q r z = absurd (omega arith)
     by false true c d g f p q r z = absurd (omega arith)
     by false false true d g f p q r z = absurd (omega arith)
     by false false false true g f p q r z = absurd (omega arith)
     by false false false false false f p q r z = absurd (eqb-false (utf8.number e) 0 q z)
     by false false false false true true p q r z = absurd (omega arith)
-    by false false false false true false p q r z = (omega (arith, ltb-false (length out) (rec .count) p, ltb-false (length out - rec .count) n r), refl)
+    by false false false false true false p q r z =
+        let s = is-sound rec (length out) p in
+        (omega (arith, s .within, ltb-false (length out - rec .count) n r), refl, record { line = s .line; column = s .column })
 
 -- an answer of number 0 is a success
 pub zero-added : {rec : Stream} {out : List ℕ} {token : ℕ} {value : List ℕ} {a : Answer} {rec′ : Stream} {out′ : List ℕ} → Appends rec out token value a rec′ out′
@@ -90,8 +106,11 @@ succeeds {rec} {out} {token} {value} {n} {rec′} x =
     let c : rec′ .count ≡ rec .count + m = ap (λ (s : Stream). s .count) (x .leave) ∙ ap (λ (k : ℕ). rec .count + k) z in
     record {
       fits = omega (arith, p .0);
+      was = p .2;
       spaced = ap (λ (s : Stream). s .spaced) (x .leave);
       count = c;
+      line = ap (λ (s : Stream). s .line) (x .leave);
+      column = ap (λ (s : Stream). s .column) (x .leave);
       writes = rw (c, ← z) (x .writes);
     }
 
@@ -121,8 +140,8 @@ pub output-length : {rec : Stream} {out : List ℕ} {t : Token} {rec′ : Stream
 output-length {rec} {out} {t} s = rw (s .writes, s .count) (put-length out (adds (rec .spaced) t) (rec .count) (omega (arith, s .fits, s .count)))
 
 pub appended : {rec : Stream} {out : List ℕ} {ls : List Lent} {rec′ : Stream} {out′ : List ℕ} → AppendsAll rec out ls rec′ out′ → Appended rec out (tokensOf ls) rec′ out′
-unfolding text bit
-appended {rec} {out} none = record { spaced = refl; count = sym (add-zero (rec .count)); writes = rw append-nil (sym (take-append-drop (rec .count) out)) }
+unfolding text bit lines column
+appended {rec} {out} none = record { spaced = refl; count = sym (add-zero (rec .count)); line = sym (add-zero (rec .line)); column = refl; writes = rw append-nil (sym (take-append-drop (rec .count) out)) }
 appended {rec} {out} {rec′ = rec′} (one {mid = mid} {o = o} {l = l} {ls = ls} x xs) =
     let s = succeeds x in
     let r = appended xs in
@@ -131,9 +150,13 @@ appended {rec} {out} {rec′ = rec′} (one {mid = mid} {o = o} {l = l} {ls = ls
     let b = text (leaves (rec .spaced) t) (tokensOf ls) in
     let fits : rec .count + length a ≤ length out = omega (arith, s .fits, s .count) in
     let count : rec′ .count ≡ rec .count + length a + length b = r .count ∙ rw (s .spaced, s .count) in
+    let line : rec′ .line ≡ rec .line + lines a + lines b = r .line ∙ rw (s .spaced, s .line) in
+    let col : rec′ .column ≡ column (column (rec .column) a) b = r .column ∙ rw (s .spaced, s .column) in
     record {
       spaced = r .spaced ∙ ap (λ (c : Bool). bit c (tokensOf ls)) (s .spaced);
       count = omega (arith, count, length-append a b);
+      line = omega (arith, line, lines-append a b);
+      column = col ∙ sym (column-append (rec .column) a b);
       writes = r .writes ∙ rw (count, s .spaced, s .writes, s .count) (put-both out a (rec .count) fits b);
     }
 
@@ -157,28 +180,37 @@ no-stray false n h = by (ltb 0 n) refl
     by true e = sym (h (ltb-true 0 n e))
     by false e = refl
 
-added : (rec : Stream) (out : List ℕ) (l : Lent) → Fine l → rec .count + length (news rec (l .0) (l .1)) ≤ length out
+-- what succeeds leaves such a record again
+pub held-on : {rec : Stream} {out : List ℕ} {t : Token} {rec′ : Stream} {out′ : List ℕ} → Succeeds rec out t rec′ out′ → Held rec′
+held-on {rec} {t = t} s =
+    let n = adds (rec .spaced) t in
+    record {
+      line = omega (arith, s .was .line, s .line, s .count, lines-length n);
+      column = omega (arith, s .was .column, s .column, s .count, column-length (rec .column) n);
+    }
+
+added : (rec : Stream) (out : List ℕ) (l : Lent) → Held rec → Fine l → rec .count + length (news rec (l .0) (l .1)) ≤ length out
     → let a = Added (length (news rec (l .0) (l .1))) in Appends rec out (l .0) (l .1) a (recordAfter a rec (l .0) (l .1)) (outputAfter a rec out (l .0) (l .1))
 unfolding answerTo before room broken
-added rec out l f fits =
+added rec out l h f fits =
     let n = length (news rec (l .0) (l .1)) in
     record {
       encoding = Valid;
       encoded = f .valid;
-      answers = rw (le-ltb (length out) (rec .count) (omega arith), f .spelled, no-stray (present (l .0)) (length (l .1)) (f .lent), le-ltb longest (length (l .1)) (f .short), le-ltb (length out - rec .count) n (omega arith));
+      answers = rw (sound-is rec (length out) (record { within = omega arith; line = h .line; column = h .column }), f .spelled, no-stray (present (l .0)) (length (l .1)) (f .lent), le-ltb longest (length (l .1)) (f .short), le-ltb (length out - rec .count) n (omega arith));
       leave = refl;
       writes = refl;
     }
 
 -- and room for the whole text: all of them succeed
-pub all-succeed : (rec : Stream) (out : List ℕ) {ls : List Lent} → AllFine ls → rec .count + length (textFrom rec ls) ≤ length out
+pub all-succeed : (rec : Stream) (out : List ℕ) {ls : List Lent} → Held rec → AllFine ls → rec .count + length (textFrom rec ls) ≤ length out
     → (rec′ : Stream) × (out′ : List ℕ) × AppendsAll rec out ls rec′ out′
 unfolding text news recordAfter
-all-succeed rec out none fits = (rec, out, none)
-all-succeed rec out (one {l = l} {ls = ls} f fs) fits =
+all-succeed rec out h none fits = (rec, out, none)
+all-succeed rec out h (one {l = l} {ls = ls} f fs) fits =
     let t = tokenOf (l .0) (l .1) in
     let room = length-append (adds (rec .spaced) t) (text (leaves (rec .spaced) t) (tokensOf ls)) in
-    let x = added rec out l f (omega arith) in
+    let x = added rec out l h f (omega arith) in
     let a = Added (length (adds (rec .spaced) t)) in
-    let rest = all-succeed (recordAfter a rec (l .0) (l .1)) (outputAfter a rec out (l .0) (l .1)) fs (omega (arith, output-length (succeeds x))) in
+    let rest = all-succeed (recordAfter a rec (l .0) (l .1)) (outputAfter a rec out (l .0) (l .1)) (held-on (succeeds x)) fs (omega (arith, output-length (succeeds x))) in
     (rest .0, rest .1, one x (rest .2))

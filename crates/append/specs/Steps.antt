@@ -2,8 +2,8 @@
 use Prim.Native.Nat.{ℕ, _+_, _-_, _≤_}
 use mathlib.Core.Path.{_≡_}
 use mathlib.Core.List.{List, [], _∷_}
-use mathlib.Core.Bool.{Bool}
-use lib.Dec.{ltb}
+use mathlib.Core.Bool.{Bool, false, not, cond, _&&_}
+use lib.Dec.{ltb, eqb}
 use lib.ListN.{length}
 use Rattle.laws.specs.First.{first, within}
 use Rattle.utf8.specs.Rfc3629.{Encoded}
@@ -15,7 +15,10 @@ use Rattle.append.specs.declared.Check.{Check}
 use Rattle.append.specs.declared.Check.the-variants.{Fine, Refused}
 use Rattle.stream.specs.Length.{longestToken}
 use Rattle.stream.specs.Sink.{State, step, given}
-use Rattle.append.specs.Append.{before, room, news, numberOf, present, recordAfter, outputAfter}
+use Rattle.position.specs.Position.{lines, column}
+use Rattle.spelling.specs.Spelling.{spelling}
+use Rattle.stream.specs.declared.Sink.{Sink}
+use Rattle.append.specs.Append.{unsound, before, room, news, numberOf, present, recordAfter, outputAfter}
 
 -- the first of the refusals 1, 4, 2 that fits
 pub record Checks (rec : Stream) (size token : ℕ) (value : List ℕ) (r : Check) : Type 0 where
@@ -52,6 +55,23 @@ pub record Writes (rec : Stream) (out : List ℕ) (token : ℕ) (value : List �
 unfoldable pub emitted : Bool → ℕ → List ℕ → ℕ → List ℕ → List ℕ → State
 emitted b at out token w value =
     step (record { spaced = b; at = at }, out) (numberOf token) w (given (present token) value)
+
+-- the record where the sink stands now, if only the value has newlines
+unfoldable pub movedTo : Stream → Sink → List ℕ → Stream
+movedTo rec to value =
+    record {
+      spaced = to .spaced;
+      count = to .at;
+      line = rec .line + lines value;
+      column = cond (eqb (lines value) 0) (rec .column + (to .at - rec .count)) (column 0 value);
+    }
+
+-- no refusal fits: what the bytes are put by
+pub record Ready (rec : Stream) (out : List ℕ) (token : ℕ) (word value : List ℕ) : Type 0 where
+  pub sound : unsound rec (length out) ≡ false
+  pub spells : word ≡ spelling (numberOf token)
+  pub lent : not (present token) && ltb 0 (length value) ≡ false
+  pub fits : length (news rec token value) ≤ length out - rec .count
 
 unfoldable pub counted : Bool → ℕ → List ℕ → List ℕ → ℕ
 counted b token w value = emitted b 0 [] token w value .0 .at

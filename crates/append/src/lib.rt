@@ -6,8 +6,8 @@ ghost use Prim.Native.Nat.{_-_, _≤_};
 ghost use mathlib.Core.Bool.{true};
 ghost use lib.ListN.{length};
 ghost use Rattle.spelling.specs.Spelling.{spelling};
-ghost use Rattle.append.specs.Append.{Appends, news, numberOf, number as number', place as place', present as present'};
-ghost use Rattle.append.specs.Steps.{Checks, Ample, roomTest, Verdict, Writes, counted};
+ghost use Rattle.append.specs.Append.{Appends, news, numberOf, number as number', place as place', present as present', unsound as unsound'};
+ghost use Rattle.append.specs.Steps.{Checks, Ample, roomTest, Verdict, Writes, counted, movedTo, Ready};
 use stream::Sink;
 use utf8::Encoding;
 
@@ -29,16 +29,18 @@ const UNKNOWN: u64 = 4;
 
 const NO_ROOM: u64 = 8;
 
-// The stream record: the bit, and the bytes written so far.
+// The stream record: the bit, the bytes written so far, and where they end: the line, and the bytes since the last newline.
 pub struct Stream {
     pub spaced: bool,
     pub count: usize,
+    pub line: usize,
+    pub column: usize,
 }
 
 pub enum Answer {
     // So many bytes were added.
     Added(usize),
-    // The record's count is past the output's end.
+    // The record's count is past the output's end, or its line or its column is larger than the count.
     Malformed,
     // No token has the number, or value bytes stand where none is present.
     Unknown,
@@ -103,11 +105,18 @@ pub fn present(token: u16) -> bool
     PRESENT <= token
 }
 
+// Whether a record is none that appends leave: its count is past an output of size bytes, or its line or its column is larger than the count.
+fn unsound(rec: Stream, size: usize) -> bool
+    ensures { λ r. ⌜ r ≡ unsound' rec size ⌝ }
+{
+    (size < rec.count) | ((rec.count < rec.line) | (rec.count < rec.column))
+}
+
 // The first fitting one of the refusals 1, 4 and 2, for an output of size bytes.
 fn refusal(rec: Stream, size: usize, token: u16, value: &[u8]) -> Check
     ensures { λ r. ⌜ Checks rec size token (now (value .entry)) r ⌝ }
 {
-    if size < rec.count {
+    if unsound(rec, size) {
         return Check::Refused(Answer::Malformed);
     }
     if !spelling::known(number_of(token)) {
@@ -191,9 +200,34 @@ fn any_refusal(rec: Stream, size: usize, token: u16, word: &[u8], value: &[u8]) 
     }
 }
 
+// The record that is left where the sink stands now. Only a value has newlines: behind the last of them the column begins anew.
+fn moved(rec: Stream, to: Sink, value: &[u8]) -> Stream
+    requires { ⌜ (rec .count ≤ to .at) × ((rec .line ≤ rec .count) × ((rec .column ≤ rec .count) × (length (now value) ≤ to .at - rec .count))) ⌝ }
+    ensures { λ r. ⌜ r ≡ movedTo rec to (now (value .entry)) ⌝ }
+{
+    let found = position::newlines(value);
+    let line = rec.line + found.lines;
+    let spaced = to.spaced;
+    let count = to.at;
+    if found.lines == 0 {
+        return Stream {
+            spaced,
+            count,
+            line,
+            column: rec.column + (count - rec.count),
+        };
+    }
+    Stream {
+        spaced,
+        count,
+        line,
+        column: found.behind,
+    }
+}
+
 // The token's bytes behind the record's count, where there is room for them.
 fn put(rec: Stream, out: &mut [u8], token: u16, word: &[u8], value: &[u8]) -> Next
-    requires { ⌜ (rec .count ≤ length (now out)) × ((now word ≡ spelling (numberOf token)) × (length (news rec token (now value)) ≤ length (now out) - rec .count)) ⌝ }
+    requires { ⌜ Ready rec (now out) token (now word) (now value) ⌝ }
     ensures { λ r. ⌜ Writes rec (now (out .entry)) token (now (value .entry)) (r .answer) (r .rec) (now (out .exit)) ⌝ }
 {
     let start = Sink {
@@ -202,12 +236,10 @@ fn put(rec: Stream, out: &mut [u8], token: u16, word: &[u8], value: &[u8]) -> Ne
     };
     let s = stream::append(start, out, number_of(token), word, present(token), value);
     let added = s.at - rec.count;
+    let left = moved(rec, s, value);
     Next {
         answer: Answer::Added(added),
-        rec: Stream {
-            spaced: s.spaced,
-            count: s.at,
-        },
+        rec: left,
     }
 }
 
@@ -244,4 +276,13 @@ pub fn append(rec: &mut Stream, out: &mut [u8], token: u16, value: &[u8]) -> Ans
     let next = step(*rec, out, token, value);
     *rec = next.rec;
     next.answer
+}
+
+// The same for a record by value: it is lent to `append`, and what is left of it handed back.
+pub fn lent(rec: Stream, out: &mut [u8], token: u16, value: &[u8]) -> Next
+    ensures { λ r. ⌜ Appends rec (now (out .entry)) token (now (value .entry)) (r .answer) (r .rec) (now (out .exit)) ⌝ }
+{
+    let mut own = rec;
+    let answer = append(&mut own, out, token, value);
+    Next { answer, rec: own }
 }

@@ -13,7 +13,8 @@ use borrow.Author.Tests.{eq-eqb}
 use Rattle.stream.specs.Stream.{text}
 use Rattle.stream.specs.Cases.{Case, cases, cases-hold}
 use Rattle.append.specs.declared.Stream.{Stream}
-use Rattle.append.specs.Lists.{Lent, tokensOf, AppendsAll, appended, all-succeed}
+use Rattle.position.specs.Position.{lines, column}
+use Rattle.append.specs.Lists.{Lent, tokensOf, AppendsAll, Held, appended, all-succeed}
 use Rattle.wire.specs.Wire.{unpacked}
 use Rattle.wire.specs.Lists.{CrossesAll, all-append}
 use Rattle.tree.specs.Check as tree
@@ -33,14 +34,16 @@ use Rattle.demands.specs.Lends.{lent, case-lent}
 pub record Fresh (rec : Stream) : Type 0 where
   pub spaced : rec .spaced ≡ true
   pub count : rec .count ≡ 0
+  pub line : rec .line ≡ 0
+  pub column : rec .column ≡ 0
 
--- and its nine bytes
+-- and its bytes
 abbrev pub freshBytes : List ℕ
-freshBytes = 1 ∷ replicate 8 0
+freshBytes = 1 ∷ replicate 24 0
 
 fresh-bytes : Fresh (unpacked freshBytes)
 unfolding unpacked
-fresh-bytes = record { spaced = refl; count = refl }
+fresh-bytes = record { spaced = refl; count = refl; line = refl; column = refl }
 
 case-text : {c : Case} → List·Memᴰ c cases → text true (c .0) ≡ c .1
 case-text {c} m = held cases cases-hold m
@@ -57,6 +60,13 @@ module _ {rec : Stream} {out : List ℕ} {ls : List Lent} {rec′ : Stream} {out
       let a = appended all in
       let n : length (text true (tokensOf ls)) ≡ rec′ .count = sym (a .count ∙ rw (fresh .spaced, fresh .count) (zero-add (length (text true (tokensOf ls))))) in
       rw (a .writes, fresh .spaced, fresh .count) (take-at (text true (tokensOf ls)) (drop (rec′ .count) out) (rec′ .count) n)
+
+  -- 02, ix: line and column are functions of all bytes written, the number of newlines and the bytes since the last one
+  pub appended-line : rec′ .line ≡ lines (take (rec′ .count) out′)
+  appended-line = rw appended-text (appended all .line ∙ rw (fresh .spaced, fresh .line) (zero-add (lines (text true (tokensOf ls)))))
+
+  pub appended-column : rec′ .column ≡ column 0 (take (rec′ .count) out′)
+  appended-column = rw appended-text (appended all .column ∙ rw (fresh .spaced, fresh .column))
 
   -- demand 3: a readable stream is cut back into its lexemes, with nothing left
   pub appended-reads-back : {lexemes : List Lexed} → Readable (tokensOf ls) lexemes → Cuts (take (rec′ .count) out′) lexemes []
@@ -79,13 +89,20 @@ pub cases-appended : {rec : Stream} {c : Case} → Fresh rec → List·Memᴰ c 
 cases-appended {rec} {c} f m out room =
     let l = case-lent m in
     let n : rec .count + length (text (rec .spaced) (tokensOf (lent (c .0)))) ≤ length out = rw (f .spaced, f .count, l .0, case-text m, zero-add) room in
-    let a = all-succeed rec out (l .1) n in
+    let h : Held rec = record { line = omega (arith, f .line); column = omega (arith, f .column) } in
+    let a = all-succeed rec out h (l .1) n in
     (a .0, a .1, a .2, appended-case f (a .2) m (l .0))
 
--- ---- the same of kinyandoma_append, from the nine bytes of a fresh record, where all answers are below 2^32
+-- ---- the same of kinyandoma_append, from the bytes of a fresh record, where all answers are below 2^32
 module _ {out : List ℕ} {ls : List Lent} {r′ out′ : List ℕ} (all : CrossesAll freshBytes out ls r′ out′) (fits : length out < 2 ^ 64) where
   pub crossed-text : take (unpacked r′ .count) out′ ≡ text true (tokensOf ls)
   crossed-text = appended-text fresh-bytes (all-append all fits)
+
+  pub crossed-line : unpacked r′ .line ≡ lines (take (unpacked r′ .count) out′)
+  crossed-line = appended-line fresh-bytes (all-append all fits)
+
+  pub crossed-column : unpacked r′ .column ≡ column 0 (take (unpacked r′ .count) out′)
+  crossed-column = appended-column fresh-bytes (all-append all fits)
 
   pub crossed-reads-back : {lexemes : List Lexed} → Readable (tokensOf ls) lexemes → Cuts (take (unpacked r′ .count) out′) lexemes []
   crossed-reads-back r = appended-reads-back fresh-bytes (all-append all fits) r

@@ -8,7 +8,8 @@ use lib.Dec.{ltb, leb}
 use lib.ListN.{length}
 use borrow.Author.Tests.{ltb-true, leb-true, le-leb, lt-leb}
 use Rattle.laws.specs.Tests.{and-left, and-right}
-use Rattle.utf8.specs.Plain.{allPlain, plain-text}
+use Rattle.laws.specs.Among.{all}
+use Rattle.utf8.specs.Rfc3629.{Text, none as no-text, more, one}
 use Rattle.spelling.specs.Rows.{rows}
 use Rattle.spelling.specs.Spelling.{row, known}
 use Rattle.stream.specs.Stream.{Token, Value, none, some}
@@ -25,8 +26,19 @@ lentAs k (some v) = (k + 0x8000, v)
 abbrev pub lent : List Token → List Lent
 lent ts = map (λ t. lentAs (t .kind) (t .value)) ts
 
+-- characters of one byte each, controls among them
+low : List ℕ → Bool
+low v = all (λ b. ltb b 0x80) v
+
+low-text : (v : List ℕ) → low v ≡ true → Text v
+unfolding low
+low-text [] t = no-text
+low-text (x ∷ v) t =
+    let below = ltb-true x 0x80 (and-left (ltb x 0x80) (low v) t) in
+    more (one {a = x} (record { low = omega arith; high = omega arith })) (low-text v (and-right (ltb x 0x80) (low v) t))
+
 lendable : ℕ → List ℕ → Bool
-lendable k v = (ltb k 0x8000 && known k) && (leb (length v) longest && allPlain v)
+lendable k v = (ltb k 0x8000 && known k) && (leb (length v) longest && low v)
 
 allLendable : List Token → Bool
 allLendable [] = true
@@ -37,7 +49,7 @@ eachLendable [] = true
 eachLendable (c ∷ cs) = allLendable (c .0) && eachLendable cs
 
 computed : eachLendable cases ≡ true
-unfolding eachLendable allLendable lendable cases known row rows allPlain
+unfolding eachLendable allLendable lendable low cases known row rows
 computed = refl
 
 -- it is lent as itself
@@ -50,7 +62,7 @@ module _ (k : ℕ) (v : List ℕ) (h : lendable k v ≡ true) where
   unfolding lendable
   spelled = and-right (ltb k 0x8000) (known k) (and-left (ltb k 0x8000 && known k) _ h)
 
-  value-right : leb (length v) longest && allPlain v ≡ true
+  value-right : leb (length v) longest && low v ≡ true
   unfolding lendable
   value-right = and-right (ltb k 0x8000 && known k) _ h
 
@@ -59,8 +71,8 @@ module _ (k : ℕ) (v : List ℕ) (h : lendable k v ≡ true) where
       record {
         spelled = rw n spelled;
         lent = p;
-        short = leb-true (length v) longest (and-left (leb (length v) longest) (allPlain v) value-right);
-        valid = plain-text v (and-right (leb (length v) longest) (allPlain v) value-right);
+        short = leb-true (length v) longest (and-left (leb (length v) longest) (low v) value-right);
+        valid = low-text v (and-right (leb (length v) longest) (low v) value-right);
       }
 
 one-back : (k : ℕ) (v : Value) → lendable k (lentAs k v .1) ≡ true

@@ -4,7 +4,7 @@ ghost use Rattle.wire.specs.Wire.{Crosses};
 // The calls over whole trees.
 pub mod trees;
 
-// Appends one token: 01's append, with the record as nine bytes. Answers number * 2^32 + place.
+// Appends one token: 01's append, with the record as 25 bytes. Answers number * 2^32 + place.
 #[no_mangle]
 pub extern "C" fn kinyandoma_append(rec: &mut [u8], out: &mut [u8], token: u16, value: &[u8]) -> u64
     ensures { λ r. ⌜ Crosses (now (rec .entry)) (now (out .entry)) token (now (value .entry)) r (now (rec .exit)) (now (out .exit)) ⌝ }

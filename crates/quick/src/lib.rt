@@ -8,7 +8,9 @@ ghost use Rattle.spelling.specs.Spelling.{spelling};
 ghost use Rattle.store.specs.Laid.{lead, roomFor};
 ghost use Rattle.stream.specs.Stream.{leaves};
 ghost use Rattle.append.specs.Append.{news, tokenOf, numberOf, present as present'};
-ghost use Rattle.quick.specs.Quick.{alone as alone', marked as marked', tightMarks, openingMarks, valueMay, wordMay, Comes};
+ghost use Rattle.laws.specs.Among.{among};
+ghost use Rattle.blank.specs.Blank.{allBlank};
+ghost use Rattle.quick.specs.Quick.{otherKinds, alone as alone', marked as marked', tightMarks, openingMarks, fewMay, manyMay, wordMay, Comes};
 use append::LONGEST;
 use append::PRESENT;
 use append::Stream;
@@ -24,25 +26,10 @@ use spelling::token::TK_PTR;
 use spelling::token::TK_STRING;
 use spelling::token::TK_VARIABLE;
 use store::Laid;
+use stream::Sink;
 
-// The token words with a value of kinds that are written by it alone.
+// The token word of most values.
 const ID: u16 = PRESENT + TK_ID;
-
-const STRING: u16 = PRESENT + TK_STRING;
-
-const INTEGER: u16 = PRESENT + TK_INTEGER;
-
-const FLOAT: u16 = PRESENT + TK_FLOAT;
-
-const VARIABLE: u16 = PRESENT + TK_VARIABLE;
-
-const JOIN_KW: u16 = PRESENT + TK_JOIN_KW;
-
-const LIKE_KW: u16 = PRESENT + TK_LIKE_KW;
-
-const CTIME_KW: u16 = PRESENT + TK_CTIME_KW;
-
-const PTR: u16 = PRESENT + TK_PTR;
 
 // A set of marks has a bit for each byte that may be one: counted from 40, the opening bracket, and from the start again after 64.
 const MARKS: u64 = 64;
@@ -59,49 +46,81 @@ const OPENING: u64 = 0x8_0000_0000_0041;
 pub enum Quick {
     // Nothing was done.
     Not,
-    // It was laid, and this record is left.
-    Done(Stream),
+    // It was laid, and leaves this bit and this count; no newline is in it.
+    Done(Sink),
 }
 
-// Whether a token word is of a kind that is written by its value alone, and has one.
+// Whether a kind is one of those that are written by their value alone, and are less common than TK_ID.
+fn other(kind: u16) -> bool
+    ensures { λ r. ⌜ r ≡ among kind otherKinds ⌝ }
+{
+    (kind == TK_STRING)
+        | ((kind == TK_INTEGER)
+            | ((kind == TK_FLOAT)
+                | ((kind == TK_VARIABLE)
+                    | ((kind == TK_JOIN_KW)
+                        | ((kind == TK_LIKE_KW) | ((kind == TK_CTIME_KW) | (kind == TK_PTR)))))))
+}
+
+// Whether a token word is of a kind that is written by its value alone, and has one. Most are TK_ID.
 fn alone(token: u16) -> bool
     ensures { λ r. ⌜ r ≡ alone' token ⌝ }
 {
-    (token == ID)
-        | ((token == STRING)
-            | ((token == INTEGER)
-                | ((token == FLOAT)
-                    | ((token == VARIABLE)
-                        | ((token == JOIN_KW)
-                            | ((token == LIKE_KW) | ((token == CTIME_KW) | (token == PTR))))))))
+    if token == ID {
+        return true;
+    }
+    if !present(token) {
+        return false;
+    }
+    other(number_of(token))
 }
 
-// A token that is a plain value alone is laid, where there is room for it.
-pub fn value_alone(rec: Stream, out: &mut [u8], token: u16, value: &[u8]) -> Quick
-    ensures { λ r. ⌜ Comes (valueMay rec (length (now (out .entry))) token (now (value .entry))) rec (now (out .entry)) (news rec token (now (value .entry))) (leaves (rec .spaced) (tokenOf token (now (value .entry)))) r (now (out .exit)) ⌝ }
+// A plain value alone is laid, where there is room for it.
+fn value_laid(rec: Stream, out: &mut [u8], value: &[u8]) -> Quick
+    ensures { λ r. ⌜ Comes (roomFor (rec .count) (length (now (out .entry))) (now (value .entry))) rec (now (out .entry)) (lead (rec .spaced) ++ now (value .entry)) (allBlank (now (value .entry))) r (now (out .exit)) ⌝ }
 {
     let n = value.len();
     let at = rec.count;
     if n == 0 {
         return Quick::Not;
     }
-    if !alone(token) {
-        return Quick::Not;
-    }
-    if !utf8::plain(value) {
-        return Quick::Not;
-    }
-    if LONGEST < n {
-        return Quick::Not;
-    }
     let l = store::lay_all(out, at, rec.spaced, value);
     match l {
         Laid::Not => Quick::Not,
-        Laid::To(count) => Quick::Done(Stream {
+        Laid::To(at) => Quick::Done(Sink {
             spaced: blank::all_blank(value),
-            count,
+            at,
         }),
     }
+}
+
+// A token that is a plain value alone, of few bytes, is laid, where there is room for it.
+pub fn value_alone(rec: Stream, out: &mut [u8], token: u16, value: &[u8]) -> Quick
+    ensures { λ r. ⌜ Comes (fewMay rec (length (now (out .entry))) token (now (value .entry))) rec (now (out .entry)) (news rec token (now (value .entry))) (leaves (rec .spaced) (tokenOf token (now (value .entry)))) r (now (out .exit)) ⌝ }
+{
+    if !alone(token) {
+        return Quick::Not;
+    }
+    if !utf8::plain_few(value) {
+        return Quick::Not;
+    }
+    value_laid(rec, out, value)
+}
+
+// And one of more bytes.
+pub fn long_alone(rec: Stream, out: &mut [u8], token: u16, value: &[u8]) -> Quick
+    ensures { λ r. ⌜ Comes (manyMay rec (length (now (out .entry))) token (now (value .entry))) rec (now (out .entry)) (news rec token (now (value .entry))) (leaves (rec .spaced) (tokenOf token (now (value .entry)))) r (now (out .exit)) ⌝ }
+{
+    if LONGEST < value.len() {
+        return Quick::Not;
+    }
+    if !alone(token) {
+        return Quick::Not;
+    }
+    if !utf8::plain_many(value) {
+        return Quick::Not;
+    }
+    value_laid(rec, out, value)
 }
 
 // Whether a set of marks, a bit for each, has the mark that is spelled as b.
@@ -120,9 +139,9 @@ fn mark(rec: Stream, out: &mut [u8], word: &[u8]) -> Quick
     let l = store::lay_all(out, rec.count, rec.spaced | marked(TIGHT, b), word);
     match l {
         Laid::Not => Quick::Not,
-        Laid::To(count) => Quick::Done(Stream {
+        Laid::To(at) => Quick::Done(Sink {
             spaced: marked(OPENING, b),
-            count,
+            at,
         }),
     }
 }
@@ -138,10 +157,7 @@ fn bare(rec: Stream, out: &mut [u8], token: u16, word: &[u8]) -> Quick
     let l = store::lay_all(out, rec.count, rec.spaced, word);
     match l {
         Laid::Not => Quick::Not,
-        Laid::To(count) => Quick::Done(Stream {
-            spaced: false,
-            count,
-        }),
+        Laid::To(at) => Quick::Done(Sink { spaced: false, at }),
     }
 }
 

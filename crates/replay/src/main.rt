@@ -1,4 +1,5 @@
-// Replays cases of append from standard input, and prints a line for each: the bytes written, in hex, and the record's bit; or the refusal.
+// Replays cases of append from standard input, and prints a line for each: the bytes written, in hex, and the
+// record's bit, line and column; or the refusal.
 //
 // A case is a byte, the number of its tokens, and the tokens. A token is its word and the length of its value, each of
 // two bytes, little-endian, and the value's bytes.
@@ -38,14 +39,16 @@ fn fresh() -> Case
     Case::Written(Stream {
         spaced: true,
         count: 0,
+        line: 0,
+        column: 0,
     })
 }
 
-// Appends a token behind what a case has written.
+// Appends a token behind what a case has written: the case's record is lent.
 fn append_token(rec: Stream, text: &mut [u8; TEXT], token: u16, value: &[u8]) -> Case
     ensures { λ r. ⌜ Within r ⌝ }
 {
-    let next = append::step(rec, text, token, value);
+    let next = append::lent(rec, text, token, value);
     let answer = next.answer;
     let left = next.rec;
     match answer {
@@ -103,10 +106,11 @@ fn print_written(rec: Stream, text: &[u8])
     let count = rec.count;
     lines::print_bytes(&text[..count]);
     if rec.spaced {
-        io::write_all(STDOUT_FILENO, b" 1\n");
+        io::write_all(STDOUT_FILENO, b" 1 ");
     } else {
-        io::write_all(STDOUT_FILENO, b" 0\n");
+        io::write_all(STDOUT_FILENO, b" 0 ");
     }
+    lines::print_numbers(rec.line as u64, rec.column as u64, b'\n');
 }
 
 // Prints the line of a case with a token that was refused: the refusal's number and place.

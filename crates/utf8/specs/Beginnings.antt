@@ -8,7 +8,7 @@ use mathlib.Core.Bool.{Bool, true, false, false≢true}
 use native.Mathlib.Omega.{arith}
 use lib.Dec.{leb, ltb, eqb}
 use lib.ListN.{length, drop, getD, length-append, List·getD-append}
-use borrow.Author.Tests.{le-leb, lt-leb, leb-true, leb-false, le-ltb, eqb-true, eqb-false,  ltb-true, ltb-false, eq-eqb, ne-eqb}
+use borrow.Author.Tests.{le-leb, lt-leb, leb-true, leb-false, le-ltb, eqb-true, eqb-false, ltb-true, ltb-false, eq-eqb, ne-eqb}
 use Rattle.laws.specs.Below.{below, at}
 use Rattle.laws.specs.Tests.{and-left, and-right, and-both}
 use Rattle.utf8.specs.declared.Encoding.{Encoding}

@@ -1,23 +1,38 @@
--- Plain bytes are below 80. Each is a character, so that a row of them is a text. Assumes nothing.
-use Prim.Native.Nat.{ℕ, _+_, _-_, _/_, _≤_, _<_}
+-- Plain bytes are from 20 to 7F. Each is a character and no control, so that a row of them is a text that holds no newline. Assumes nothing.
+use Prim.Native.Nat.{ℕ, zero, suc, _+_, _-_, _/_, _≤_, _<_}
 use mathlib.Core.Path.{_≡_, refl, _∙_, sym}
 use mathlib.Core.List.{List, [], _∷_, _++_}
-use mathlib.Core.Bool.{Bool, true, false, _&&_, false≢true}
+use mathlib.Core.Bool.{Bool, true, false, not, _&&_, false≢true}
 use native.Mathlib.Omega.{arith}
 use native.Mathlib.Nat.{not-suc-le-zero}
-use lib.Dec.{ltb}
+use lib.Dec.{leb, ltb, eqb}
 use lib.ListN.{length, take, drop, getD, length-drop, take-append-drop}
 use lib.Seq.{take-all, take-take, take-add}
-use borrow.Author.Tests.{ltb-true}
+use borrow.Author.Tests.{leb-true, le-leb, lt-leb, ltb-true, ne-eqb}
 use Rattle.laws.specs.Rest.{rest, length-rest}
 use Rattle.laws.specs.Tests.{and-left, and-right, and-both, as-one}
 use Rattle.utf8.specs.Rfc3629.{Text, none, more, one}
 use Rattle.utf8.specs.Characters.{NoChar}
 
--- all bytes are plain: below 80
+-- a plain byte: a character of one byte that is no control
+unfoldable pub plain : ℕ → Bool
+plain x = leb 0x20 x && ltb x 0x80
+
+-- all bytes are plain
 unfoldable pub allPlain : List ℕ → Bool
 allPlain [] = true
-allPlain (x ∷ s) = ltb x 0x80 && allPlain s
+allPlain (x ∷ s) = plain x && allPlain s
+
+-- there are few bytes, at most sixteen
+abbrev pub few : List ℕ → Bool
+few s = leb (length s) 16
+
+-- there are few, or many, and all are plain
+abbrev pub fewPlain : List ℕ → Bool
+fewPlain s = few s && allPlain s
+
+abbrev pub manyPlain : List ℕ → Bool
+manyPlain s = not (few s) && allPlain s
 
 -- where the pieces of w plain bytes that begin the bytes end
 pub record Stops (w : ℕ) (s : List ℕ) (i : ℕ) : Type 0 where
@@ -29,12 +44,43 @@ pub record Stops (w : ℕ) (s : List ℕ) (i : ℕ) : Type 0 where
 abbrev pub Goes : List ℕ → ℕ → Type 0
 Goes s n = (n ≡ 0 → NoChar s) × ((n ≡ 0 → ⊥) → (n ≤ length s) × Text (take n s))
 
+-- ---- a byte
+
+pub plain-within : (x : ℕ) → plain x ≡ true → (0x20 ≤ x) × (x < 0x80)
+unfolding plain
+plain-within x t = (leb-true 0x20 x (and-left (leb 0x20 x) (ltb x 0x80) t), ltb-true x 0x80 (and-right (leb 0x20 x) (ltb x 0x80) t))
+
+pub no-newline : (x : ℕ) → plain x ≡ true → eqb x 0x0A ≡ false
+no-newline x t = ne-eqb x 0x0A (λ e. omega (arith, plain-within x t))
+
+-- each byte of a plain row
+pub plain-at : (s : List ℕ) → allPlain s ≡ true → (i : ℕ) → i < length s → (0x20 ≤ getD s i 0) × (getD s i 0 < 0x80)
+unfolding allPlain
+plain-at [] t i h = absurd (not-suc-le-zero h)
+plain-at (x ∷ s) t zero h = plain-within x (and-left (plain x) (allPlain s) t)
+plain-at (x ∷ s) t (suc i) h = plain-at s (and-right (plain x) (allPlain s) t) i (omega arith)
+
+-- ---- few bytes, and many
+
+module _ (s : List ℕ) (b : Bool) where
+  pub of-few : length s ≤ 16 → b ≡ allPlain s → b ≡ fewPlain s
+  of-few h e = rw (le-leb (length s) 16 h) e
+
+  pub of-many : 16 < length s → b ≡ allPlain s → b ≡ manyPlain s
+  of-many h e = rw (lt-leb (length s) 16 h) e
+
+pub not-few : (s : List ℕ) → 16 < length s → false ≡ fewPlain s
+not-few s h = rw (lt-leb (length s) 16 h)
+
+pub not-many : (s : List ℕ) → length s ≤ 16 → false ≡ manyPlain s
+not-many s h = rw (le-leb (length s) 16 h)
+
 -- ---- a row in parts
 
 pub plain-append : (a b : List ℕ) → allPlain (a ++ b) ≡ allPlain a && allPlain b
 unfolding allPlain
 plain-append [] b = refl
-plain-append (x ∷ a) b = rw (plain-append a b) (by (ltb x 0x80))
+plain-append (x ∷ a) b = rw (plain-append a b) (by (plain x))
   where
     by : (t : Bool) → t && (allPlain a && allPlain b) ≡ (t && allPlain a) && allPlain b
     by true = refl
@@ -106,21 +152,21 @@ none-plain [] e = refl
 none-plain (x ∷ s) e = absurd (omega arith)
 
 pub three-plain : (s : List ℕ) → 0 < length s → length s < 4
-    → (ltb (getD s 0 0) 0x80 && ltb (getD s (length s / 2) 0) 0x80) && ltb (getD s (length s - 1) 0) 0x80 ≡ allPlain s
+    → (plain (getD s 0 0) && plain (getD s (length s / 2) 0)) && plain (getD s (length s - 1) 0) ≡ allPlain s
 unfolding allPlain
 three-plain [] h l = absurd (not-suc-le-zero h)
-three-plain (x ∷ []) h l = by (ltb x 0x80)
+three-plain (x ∷ []) h l = by (plain x)
   where
     by : (a : Bool) → (a && a) && a ≡ a && true
     by true = refl
     by false = refl
-three-plain (x ∷ y ∷ []) h l = by (ltb x 0x80) (ltb y 0x80)
+three-plain (x ∷ y ∷ []) h l = by (plain x) (plain y)
   where
     by : (a b : Bool) → (a && b) && b ≡ a && (b && true)
     by true true = refl
     by true false = refl
     by false b = refl
-three-plain (x ∷ y ∷ z ∷ []) h l = by (ltb x 0x80) (ltb y 0x80) (ltb z 0x80)
+three-plain (x ∷ y ∷ z ∷ []) h l = by (plain x) (plain y) (plain z)
   where
     by : (a b c : Bool) → (a && b) && c ≡ a && (b && (c && true))
     by true true true = refl
@@ -135,5 +181,5 @@ pub plain-text : (s : List ℕ) → allPlain s ≡ true → Text s
 unfolding allPlain
 plain-text [] t = none
 plain-text (x ∷ s) t =
-    let below = ltb-true x 0x80 (and-left (ltb x 0x80) (allPlain s) t) in
-    more (one {a = x} (record { low = omega arith; high = omega arith })) (plain-text s (and-right (ltb x 0x80) (allPlain s) t))
+    let within = plain-within x (and-left (plain x) (allPlain s) t) in
+    more (one {a = x} (record { low = omega arith; high = omega arith })) (plain-text s (and-right (plain x) (allPlain s) t))

@@ -6,7 +6,7 @@ ghost use lib.ListN.{length, take};
 ghost use Rattle.utf8.specs.Rfc3629.{Encoded, number as number', place as place', tail as tail', boundary as boundary'};
 ghost use Rattle.utf8.specs.Scan.{ones as ones', low as low', high as high', second as second', two as two', three as three', four as four', width, long as long', begins as begins', brokenAt};
 ghost use Rattle.laws.specs.Little.{fromLittle};
-ghost use Rattle.utf8.specs.Plain.{allPlain, Stops, Goes};
+ghost use Rattle.utf8.specs.Plain.{plain as plain', allPlain, fewPlain, manyPlain, Stops, Goes};
 
 // A tail, a byte that goes on with a character, is from 80 to BF.
 const TAIL_FIRST: u8 = 0x80;
@@ -51,6 +51,12 @@ const PAGE: usize = 64;
 
 // The highest bit of each of four bytes.
 const HIGHEST_BITS: u64 = 0x8080_8080;
+
+// The first plain byte: the controls stand before it.
+const PLAIN_FIRST: u8 = 0x20;
+
+// 9F in each of four bytes, and a bit above them, so that no number of four bytes is greater: what is left of 9F by a byte from 20 on is below 80.
+const ABOVE_CONTROLS: u64 = 0x1_9F9F_9F9F;
 
 // What the check answers.
 pub enum Encoding {
@@ -185,6 +191,13 @@ fn char_len(s: &[u8]) -> usize
     }
 }
 
+// Whether a byte is plain: a character of one byte that is no control, from 20 to 7F.
+fn plain_byte(b: u8) -> bool
+    ensures { λ r. ⌜ r ≡ plain' b ⌝ }
+{
+    (PLAIN_FIRST <= b) & (b < TAIL_FIRST)
+}
+
 // The number of the first four bytes, the lowest first.
 fn number_of_four(s: &[u8]) -> u64
     requires { ⌜ 4 ≤ length (now s) ⌝ }
@@ -193,12 +206,13 @@ fn number_of_four(s: &[u8]) -> u64
     s[0] as u64 + 256 * (s[1] as u64 + 256 * (s[2] as u64 + 256 * s[3] as u64))
 }
 
-// Whether the first four bytes are plain: below 80, characters of one byte each. None of them has the highest bit.
+// Whether the first four bytes are plain: none of them has the highest bit, and neither has what each leaves of 9F.
 fn plain_four(s: &[u8]) -> bool
     requires { ⌜ 4 ≤ length (now s) ⌝ }
     ensures { λ r. ⌜ r ≡ allPlain (take 4 (now (s .entry))) ⌝ }
 {
-    number_of_four(s) & HIGHEST_BITS == 0
+    let n = number_of_four(s);
+    (n & HIGHEST_BITS == 0) & ((ABOVE_CONTROLS - n) & HIGHEST_BITS == 0)
 }
 
 // Whether the first eight bytes are.
@@ -237,7 +251,7 @@ fn plain_three(s: &[u8]) -> bool
     if n == 0 {
         return true;
     }
-    (s[0] < TAIL_FIRST) & (s[n / 2] < TAIL_FIRST) & (s[n - 1] < TAIL_FIRST)
+    plain_byte(s[0]) & plain_byte(s[n / 2]) & plain_byte(s[n - 1])
 }
 
 // Where the pages of sixty-four plain bytes that begin the bytes end.
@@ -268,12 +282,14 @@ fn blocks(s: &[u8]) -> usize
     i
 }
 
-// Whether sixteen bytes or more are: blocks or pages of them, and the last one, which need not begin where the one before it ends.
-fn plain_many(s: &[u8]) -> bool
-    requires { ⌜ 16 ≤ length (now s) ⌝ }
-    ensures { λ r. ⌜ r ≡ allPlain (now (s .entry)) ⌝ }
+// Whether there are more than sixteen bytes, and all are plain: blocks or pages of them, and the last one, which need not begin where the one before it ends.
+pub fn plain_many(s: &[u8]) -> bool
+    ensures { λ r. ⌜ r ≡ manyPlain (now (s .entry)) ⌝ }
 {
     let n = s.len();
+    if n <= BLOCK {
+        return false;
+    }
     if n < PAGE {
         if n - blocks(s) < BLOCK {
             return plain_block(&s[n - BLOCK..]);
@@ -286,9 +302,9 @@ fn plain_many(s: &[u8]) -> bool
     false
 }
 
-// Whether all bytes are plain. Up to sixteen are reached by two tests that overlap.
-pub fn plain(s: &[u8]) -> bool
-    ensures { λ r. ⌜ r ≡ allPlain (now (s .entry)) ⌝ }
+// Whether there are at most sixteen bytes, and all are plain. Two tests that overlap reach them all.
+pub fn plain_few(s: &[u8]) -> bool
+    ensures { λ r. ⌜ r ≡ fewPlain (now (s .entry)) ⌝ }
 {
     let n = s.len();
     if n < FOUR {
@@ -300,7 +316,7 @@ pub fn plain(s: &[u8]) -> bool
     if n <= BLOCK {
         return plain_eight(s) & plain_eight(&s[n - EIGHT..]);
     }
-    plain_many(s)
+    false
 }
 
 // How many of the first bytes are plain for sure: pages of them, and blocks behind those.
@@ -316,7 +332,7 @@ fn next_len(s: &[u8]) -> usize
     requires { ⌜ 0 < length (now s) ⌝ }
     ensures { λ r. ⌜ Goes (now (s .entry)) r ⌝ }
 {
-    if s[0] < TAIL_FIRST {
+    if plain_byte(s[0]) {
         return 1;
     }
     let n = char_len(s);

@@ -1,29 +1,39 @@
--- 01, sections 3 and 9: append as the engine calls it, with the record as 9 bytes and the answer as one number.
+-- 01, sections 3 and 9, and 02, ix: append as the engine calls it, with the record as 25 bytes and the answer as one number.
 use Prim.Native.Nat.{ℕ}
 use mathlib.Core.Path.{_≡_}
-use mathlib.Core.List.{List, _∷_}
+use mathlib.Core.List.{List, _∷_, _++_}
 use mathlib.Core.Bool.{Bool, true, false, _&&_}
 use lib.Dec.{leb, eqb}
-use lib.ListN.{length, getD, drop}
+use lib.ListN.{length, getD, take, drop}
 use Rattle.laws.specs.Little.{little, fromLittle}
 use Rattle.append.specs.declared.Stream.{Stream}
 use Rattle.append.specs.declared.Answer.{Answer}
 use Rattle.append.specs.declared.Answer.the-variants.{Added, Malformed, Unknown, TooLong, Broken, NoRoom}
 use Rattle.append.specs.Append.{Appends, code}
 
--- "a lent record crosses as 9 bytes (0 or 1, then the count, little-endian; all else is malformed)"
+-- "a lent record crosses as [bytes] (0 or 1, then the count, little-endian; all else is malformed)"; 02: line and column "as bytes, 8 each, after the count"
 unfoldable pub wellFormed : List ℕ → Bool
-wellFormed r = eqb (length r) 9 && leb (getD r 0 0) 1
+wellFormed r = eqb (length r) 25 && leb (getD r 0 0) 1
 
 unfoldable pub unpacked : List ℕ → Stream
-unpacked r = record { spaced = eqb (getD r 0 0) 1; count = fromLittle (drop 1 r) }
+unpacked r =
+    record {
+      spaced = eqb (getD r 0 0) 1;
+      count = fromLittle (take 8 (drop 1 r));
+      line = fromLittle (take 8 (drop 9 r));
+      column = fromLittle (take 8 (drop 17 r));
+    }
 
 abbrev pub bitOf : Bool → ℕ
 bitOf true = 1
 bitOf false = 0
 
 unfoldable pub packed : Stream → List ℕ
-packed rec = bitOf (rec .spaced) ∷ little 8 (rec .count)
+packed rec = bitOf (rec .spaced) ∷ (little 8 (rec .count) ++ (little 8 (rec .line) ++ little 8 (rec .column)))
+
+-- line and column are each within the count (append refuses any other record)
+unfoldable pub held : Stream → Bool
+held rec = leb (rec .line) (rec .count) && leb (rec .column) (rec .count)
 
 -- the record's bytes afterwards: those of the record left, and on a refusal as they were
 abbrev pub repacked : Answer → Stream → List ℕ → List ℕ

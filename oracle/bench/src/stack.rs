@@ -1,7 +1,7 @@
 //! How deep the stack of a call goes: the call runs on a painted one.
 
 use crate::item::Item;
-use calls::{kinyandoma_append, kinyandoma_measure, kinyandoma_render, record, Answer};
+use calls::{kinyandoma_append, kinyandoma_measure, kinyandoma_render, Answer, Stream};
 use std::arch::asm;
 
 /// Bytes of the painted stack: far more than any call takes.
@@ -50,7 +50,7 @@ pub fn render(item: &Item) -> Taken {
 
 /// One token to a fresh stream, with so much room.
 pub fn append(token: u16, value: &[u8], room: usize) -> Taken {
-    let mut stream = record(true, 0);
+    let mut stream = Stream::FRESH.record();
     let mut out = vec![0u8; room];
     let arguments = [
         stream.as_mut_ptr() as usize,

@@ -1,7 +1,7 @@
 //! What is held side by side: the crate's ways from a value to its text, and the library's calls.
 
 use crate::item::{done, Given, Input, Item};
-use calls::{kinyandoma_append, kinyandoma_measure, kinyandoma_render, record, Answer};
+use calls::{kinyandoma_append, kinyandoma_measure, kinyandoma_render, Answer, Stream};
 use turso_parser::ast::fmt::{TokenStream, WriteTokenStream};
 
 /// One way through an item.
@@ -121,7 +121,7 @@ pub fn render(tree: &[u8], text: &[u8], out: &mut [u8]) -> Answer {
 
 /// A fresh stream of these tokens; answers how many bytes were added.
 fn append_all(tokens: &[Given], out: &mut [u8]) -> usize {
-    let mut stream = record(true, 0);
+    let mut stream = Stream::FRESH.record();
     let mut added = 0;
     for token in tokens {
         let value = token.value_bytes();

@@ -1,5 +1,7 @@
 //! The calls of libkinyandoma.a, as include/kinyandoma.h declares them.
 
+use std::ops::Range;
+
 extern "C" {
     pub fn kinyandoma_measure(
         tree: *const u8,
@@ -26,8 +28,12 @@ extern "C" {
     ) -> u64;
 }
 
-/// The bytes of a stream record.
-pub const RECORD: usize = 9;
+/// The bytes of a stream record: the bit, then count, line and column.
+pub const RECORD: usize = 25;
+/// Where its numbers stand, each little-endian.
+pub const COUNT: Range<usize> = 1..9;
+pub const LINE: Range<usize> = 9..17;
+pub const COLUMN: Range<usize> = 17..25;
 
 /// What a call answers.
 #[derive(Clone, Copy, Debug, PartialEq)]
@@ -46,10 +52,38 @@ impl Answer {
     }
 }
 
-/// The record of a stream: whether it is spaced, and how many bytes it has written.
-pub fn record(spaced: bool, count: u64) -> [u8; RECORD] {
-    let mut bytes = [0; RECORD];
-    bytes[0] = u8::from(spaced);
-    bytes[1..].copy_from_slice(&count.to_le_bytes());
-    bytes
+/// What a stream record says.
+#[derive(Clone, Copy, Debug, PartialEq)]
+pub struct Stream {
+    /// Whether the next token is written without a space before it.
+    pub spaced: bool,
+    /// The bytes written so far, the newlines among them, and the bytes since the last newline.
+    pub count: u64,
+    pub line: u64,
+    pub column: u64,
+}
+
+impl Stream {
+    /// Nothing is written.
+    pub const FRESH: Stream = Stream {
+        spaced: true,
+        count: 0,
+        line: 0,
+        column: 0,
+    };
+
+    /// The record as it crosses to the library.
+    pub fn record(&self) -> [u8; RECORD] {
+        let mut bytes = [0; RECORD];
+        bytes[0] = u8::from(self.spaced);
+        bytes[COUNT].copy_from_slice(&self.count.to_le_bytes());
+        bytes[LINE].copy_from_slice(&self.line.to_le_bytes());
+        bytes[COLUMN].copy_from_slice(&self.column.to_le_bytes());
+        bytes
+    }
+}
+
+/// A number of a record, which must have all its bytes.
+pub fn number(record: &[u8], place: Range<usize>) -> u64 {
+    u64::from_le_bytes(record[place].try_into().expect("eight bytes"))
 }

@@ -6,8 +6,9 @@ use crate::hex::hex;
 use crate::stand_in::kinyandoma_append;
 #[cfg(not(feature = "selftest"))]
 use calls::kinyandoma_append;
-use calls::{record, Answer};
+use calls::{number, Answer, Stream, COLUMN, COUNT, LINE, RECORD};
 use std::fmt;
+use tokens::position::Position;
 
 /// All that a call is given, as it stands before.
 #[derive(Clone, Debug)]
@@ -75,26 +76,44 @@ impl Call {
         }
     }
 
-    /// Done: the bytes stand at the count, and the record follows.
-    pub fn done(&self, added: &[u8], spaced: bool) -> Outcome {
-        let count = self.count() as usize;
-        let end = count + added.len();
-        let mut output = self.output.clone();
-        output[count..end].copy_from_slice(added);
+    /// Done: the bytes stand at the count, and the record says where they end.
+    pub fn done(&self, added: &[u8], spaced: bool, end: Position) -> Outcome {
+        let after = Stream {
+            spaced,
+            count: self.count() + added.len() as u64,
+            line: end.line,
+            column: end.column,
+        };
         Outcome {
             answer: Answer {
                 number: 0,
                 place: added.len() as u32,
             },
-            record: record(spaced, end as u64).to_vec(),
-            output,
+            record: after.record().to_vec(),
+            output: self.output_with(added),
             rest_untouched: true,
         }
     }
 
-    /// The record's count; the record must be 9 bytes.
+    /// The output with these bytes at the count, where there is room for them.
+    fn output_with(&self, added: &[u8]) -> Vec<u8> {
+        let count = self.count() as usize;
+        let mut output = self.output.clone();
+        output[count..count + added.len()].copy_from_slice(added);
+        output
+    }
+
+    /// The record's count; the record must have all its bytes.
     pub fn count(&self) -> u64 {
-        u64::from_le_bytes(self.record[1..9].try_into().expect("a record of 9 bytes"))
+        number(&self.record, COUNT)
+    }
+
+    /// The record's line and column; the record must have all its bytes.
+    pub fn position(&self) -> Position {
+        Position {
+            line: number(&self.record, LINE),
+            column: number(&self.record, COLUMN),
+        }
     }
 }
 
@@ -103,7 +122,7 @@ impl fmt::Display for Call {
         let (number, bit) = (self.token & 0x7FFF, self.token >> 15);
         writeln!(f, "  token    {number}, bit 15 {bit}")?;
         writeln!(f, "  value    {}", hex(&self.value))?;
-        writeln!(f, "  record   {}", hex(&self.record))?;
+        writeln!(f, "  record   {}", told_record(&self.record))?;
         write!(f, "  output   {}", hex(&self.output))
     }
 }
@@ -117,10 +136,22 @@ impl Outcome {
         } else {
             "CHANGED"
         };
-        let record = hex(&self.record);
+        let record = told_record(&self.record);
         let output = change(&call.output, &self.output);
         format!("  answer   {number}, place {place}\n  record   {record}\n  output   {output}\n  the rest {rest}")
     }
+}
+
+/// The record in hex and, if it has all its bytes, its numbers.
+fn told_record(record: &[u8]) -> String {
+    if record.len() != RECORD {
+        return hex(record);
+    }
+    let [count, line, column] = [COUNT, LINE, COLUMN].map(|place| number(record, place));
+    format!(
+        "{}: count {count}, line {line}, column {column}",
+        hex(record)
+    )
 }
 
 fn change(before: &[u8], after: &[u8]) -> String {

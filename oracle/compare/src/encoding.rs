@@ -7,7 +7,7 @@ use crate::guarded::{Fence, SHIFTS};
 use crate::report::{self, Numbers};
 use crate::rules;
 use crate::trees::{self, answers, told};
-use calls::record;
+use calls::Stream;
 use model::damage::text::BAD;
 use model::encode::Written;
 use model::fixed::drop_type;
@@ -207,8 +207,13 @@ fn as_value(part: &'static str, text: &[u8], random: &mut Random, counts: &mut C
         true => 0,
         false => text.len() + 1,
     };
+    let stream = Stream {
+        spaced: random.one_in(2),
+        count: WRITTEN as u64,
+        ..Stream::FRESH
+    };
     let call = Call {
-        record: record(random.one_in(2), WRITTEN as u64).to_vec(),
+        record: stream.record().to_vec(),
         output: vec![FILL; WRITTEN + room],
         token: TK_ID as u16 | VALUE_PRESENT,
         value: text.to_vec(),

@@ -38,6 +38,18 @@ faults! {
         LongerValue
         SurrogateTaken
         PlaceOneLater;
+    POSITION:
+        ColumnRunsOn
+        LineOnceForTwo
+        ColumnInCharacters
+        ReturnIsNewline
+        LinePastCount
+        ColumnPastCount
+        LongValueNotHeld
+        SumHeldToCount
+        RefusalMovesColumn
+        CountAndLineExchanged
+        NineBytesTaken;
     TREES:
         LengthOneMore
         LastByteMissing
@@ -94,13 +106,13 @@ pub fn try_all(whole: bool) -> bool {
     let mut listed = texts::all();
     let entries = entries_found(&listed);
     listed.extend(texts::limits());
-    let by_append = [STREAM, APPEND, ENCODING].concat();
+    let by_append = [STREAM, APPEND, POSITION, ENCODING].concat();
     let append = all_found(&by_append, whole, &difference_in_append);
     let in_trees = |fault| difference_in_trees(fault, &listed);
     let trees = all_found(&[STREAM, TREES, ENCODING].concat(), whole, &in_trees);
     let numbers = all_found(NUMBERS, whole, &difference_in_numbers);
     let encoding = all_found(ENCODING, whole, &difference_in_encoding);
-    let by_fuzz = [STREAM, APPEND, TREES, ENCODING].concat();
+    let by_fuzz = [STREAM, APPEND, POSITION, TREES, ENCODING].concat();
     let fuzzed = all_found(&by_fuzz, whole, &difference_in_fuzz);
     append && trees && entries && numbers && encoding && fuzzed
 }

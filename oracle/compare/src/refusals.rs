@@ -1,26 +1,34 @@
 //! Refused and damaged calls, against the rules: sweeps over small sets, then random ones.
 
+mod newlines;
+pub mod records;
+
 use crate::call::Call;
 use crate::report::{Counts, Difference};
 use crate::rules::expected;
-use calls::record;
+use calls::Stream;
 use tokens::encoding::LONGEST;
 use tokens::judge::step;
 use tokens::random::Random;
 use tokens::token::{known_numbers, Token, VALUE_PRESENT};
-use tokens::values::{any_kind, blank, letter, of_length, random_value, wide};
+use tokens::values::{any_kind, blank, letter, lines, of_length, random_value, wide};
 
 type Checked = Result<(), Box<Difference>>;
 
 const ID: u16 = 60;
+/// What stands in an output.
+const FILL: u8 = 0xEE;
+/// Bytes that stand before a plain call.
+const WRITTEN: usize = 3;
 
 /// The sweeps, then at least `least` random calls.
 pub fn compare(least: u64, random: &mut Random, counts: &mut Counts) -> Checked {
     every_token(counts)?;
     every_short_value(counts)?;
     edges_of_utf8(counts)?;
-    every_record_start(counts)?;
+    records::sweep(counts)?;
     every_room(counts)?;
+    newlines::sweep(counts)?;
     let end = counts.total() + least;
     while counts.total() < end {
         check("a random call", &random_call(random), counts)?;
@@ -32,11 +40,17 @@ fn check(part: &'static str, call: &Call, counts: &mut Counts) -> Checked {
     counts.check(part, call, expected(call)).map(|_| ())
 }
 
-/// A call with `room` bytes left after three that stand.
+/// A call with `room` bytes left after three, the second of which was a newline by the record.
 fn plain(spaced: bool, token: u16, value: &[u8], room: usize) -> Call {
+    let stream = Stream {
+        spaced,
+        count: WRITTEN as u64,
+        line: 1,
+        column: 1,
+    };
     Call {
-        record: record(spaced, 3).to_vec(),
-        output: vec![0xEE; 3 + room],
+        record: stream.record().to_vec(),
+        output: vec![FILL; WRITTEN + room],
         token,
         value: value.to_vec(),
     }
@@ -102,25 +116,18 @@ fn edges_of_utf8(counts: &mut Counts) -> Checked {
     Ok(())
 }
 
-/// Records of 0 to 40 bytes with each first byte.
-fn every_record_start(counts: &mut Counts) -> Checked {
-    for length in 0..=40 {
-        for first in 0..=u8::MAX {
-            let mut call = plain(true, ID | VALUE_PRESENT, b"a", 8);
-            call.record.resize(length, 0);
-            if let Some(byte) = call.record.first_mut() {
-                *byte = first;
-            }
-            check("records", &call, counts)?;
-        }
-    }
-    Ok(())
-}
-
 /// Each known token in rooms from none to one more than it needs.
 fn every_room(counts: &mut Counts) -> Checked {
+    const VALUES: [Option<&str>; 6] = [
+        None,
+        Some(""),
+        Some(" "),
+        Some("k"),
+        Some("\u{20AC}"),
+        Some("k\nk"),
+    ];
     for &number in known_numbers() {
-        for value in [None, Some(""), Some(" "), Some("k"), Some("\u{20AC}")] {
+        for value in VALUES {
             let token = Token {
                 number,
                 value: value.map(str::to_string),
@@ -149,12 +156,11 @@ fn rooms_of(token: &Token, spaced: bool, counts: &mut Counts) -> Checked {
 pub fn random_call(random: &mut Random) -> Call {
     let token = random_flags(random);
     let value = random_bytes(random);
-    let spaced = random.one_in(2);
-    let count = random.below(24);
+    let stream = records::random_stream(random);
     let room = random_room(random, value.len() + 20);
     let mut call = Call {
-        record: record(spaced, count as u64).to_vec(),
-        output: random.bytes(count + room),
+        record: stream.record().to_vec(),
+        output: random.bytes(stream.count as usize + room),
         token,
         value,
     };
@@ -162,7 +168,7 @@ pub fn random_call(random: &mut Random) -> Call {
         fit_room(&mut call, random);
     }
     if random.one_in(5) {
-        damage_record(&mut call, random);
+        records::damage(&mut call, random);
     }
     call
 }
@@ -203,30 +209,6 @@ fn fit_room(call: &mut Call, random: &mut Random) {
     }
 }
 
-fn damage_record(call: &mut Call, random: &mut Random) {
-    match random.below(3) {
-        0 => call.record.resize(random.below(20), random.byte()),
-        1 => call.record[0] = random.byte(),
-        _ => {
-            let count = strange_count(random, call.output.len() as u64);
-            call.record[1..9].copy_from_slice(&count.to_le_bytes());
-        }
-    }
-}
-
-/// At the output's end, past it, or so large that sums and shorter numbers overflow.
-fn strange_count(random: &mut Random, length: u64) -> u64 {
-    match random.below(7) {
-        0 => length,
-        1 => length + 1,
-        2 => length + random.below(300) as u64,
-        3 => length | 1 << random.between(8, 63),
-        4 => u64::MAX - random.below(40) as u64,
-        5 => (1 << 63) + random.below(3) as u64 - 1,
-        _ => random.word(),
-    }
-}
-
 /// A value's bytes: none, good, broken, or of the greatest lengths.
 fn random_bytes(random: &mut Random) -> Vec<u8> {
     match random.below(400) {
@@ -234,7 +216,8 @@ fn random_bytes(random: &mut Random) -> Vec<u8> {
         1..=60 => Vec::new(),
         61..=180 => random_value(random, 300).unwrap_or_default().into_bytes(),
         181..=260 => with_bad_part(random),
-        261..=360 => broken(random),
+        261..=340 => broken(random),
+        341..=380 => lines(random, 300).into_bytes(),
         _ => {
             let length = random.between(1, 12);
             random.bytes(length)

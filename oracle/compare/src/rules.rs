@@ -1,8 +1,10 @@
 //! What each call has to answer, read from the documents: 1, then 4, then 2 or 12, then 8.
 
 use crate::call::{Call, Outcome};
+use calls::RECORD;
 use tokens::encoding::{text_in, Refusal};
 use tokens::judge::{step, Step};
+use tokens::position::Position;
 use tokens::token::{kind_of, Token, VALUE_PRESENT};
 
 pub fn expected(call: &Call) -> Outcome {
@@ -19,7 +21,15 @@ pub fn expected(call: &Call) -> Outcome {
 }
 
 fn record_is_well_formed(call: &Call) -> bool {
-    call.record.len() == 9 && call.record[0] <= 1 && call.count() <= call.output.len() as u64
+    let bytes_are_good = call.record.len() == RECORD && call.record[0] <= 1;
+    bytes_are_good && numbers_are_good(call)
+}
+
+/// The count ends within the output; line and column, each by itself, are at most the count (request ix).
+fn numbers_are_good(call: &Call) -> bool {
+    let count = call.count();
+    let Position { line, column } = call.position();
+    count <= call.output.len() as u64 && line <= count && column <= count
 }
 
 fn token_is_known(call: &Call) -> bool {
@@ -50,5 +60,5 @@ fn appended(call: &Call, value: Option<String>) -> Outcome {
     if added.len() > room {
         return call.refused(8, added.len());
     }
-    call.done(&added, spaced)
+    call.done(&added, spaced, call.position().after(&added))
 }

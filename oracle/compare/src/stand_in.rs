@@ -1,6 +1,7 @@
 //! A small kinyandoma_append in Rust, with faults that can be planted in it.
 
 use crate::faults::{planted, Fault};
+use calls::{number, Stream, COLUMN, COUNT, LINE, RECORD};
 use std::slice::{from_raw_parts, from_raw_parts_mut};
 use tokens::encoding::{self, text_in, Refusal, CUT_OFF, LONGEST, NOT_UTF8};
 use tokens::token::kind_of;
@@ -16,6 +17,9 @@ const RBRACKET: u16 = 190;
 
 /// The beginning of an overlong form: no character begins so.
 const OVERLONG: [u8; 2] = [0xF0, 0x80];
+
+/// A longer value may be laid in a way of its own.
+const AT_ONCE: usize = 16;
 
 /// # Safety
 /// The three parts must be valid for their lengths.
@@ -37,7 +41,8 @@ pub unsafe extern "C" fn kinyandoma_append(
 }
 
 fn append(record: &mut [u8], out: &mut [u8], out_len: usize, token: u16, value: &[u8]) -> Refusal {
-    let Some((spaced, count)) = unpacked(record, out_len) else {
+    let held = !(planted(Fault::LongValueNotHeld) && value.len() > AT_ONCE);
+    let Some(stream) = unpacked(record, out_len as u64, held) else {
         return (1, 0);
     };
     let number = token & 0x7FFF;
@@ -53,36 +58,113 @@ fn append(record: &mut [u8], out: &mut [u8], out_len: usize, token: u16, value: 
     if let Some(refusal) = broken {
         return refusal;
     }
-    let (added, now_spaced) = written(spaced, number, present.then_some(value));
-    let room = out_len - count;
-    let fits = if planted(Fault::ExactRoomRefused) {
-        added.len() < room
-    } else {
-        added.len() <= room
-    };
-    if !fits {
-        spoil_refused(record, &mut out[..out_len]);
+    let (added, now_spaced) = written(stream.spaced, number, present.then_some(value));
+    if !fits(added.len(), out_len - stream.count as usize) {
+        spoil_refused(record, &mut out[..out_len], added.len());
         return (8, added.len() as u32);
     }
-    out[count..count + added.len()].copy_from_slice(&added);
-    if planted(Fault::OneByteMore) {
-        out[count + added.len()] = 0;
-    }
-    record[0] = u8::from(now_spaced);
-    record[1..9].copy_from_slice(&((count + added.len()) as u64).to_le_bytes());
+    lay(out, stream.count as usize, &added);
+    pack(after(&stream, &added, now_spaced), record);
     (0, added.len() as u32)
 }
 
-fn unpacked(record: &[u8], out_len: usize) -> Option<(bool, usize)> {
-    let length_is_good = record.len() == 9 || planted(Fault::LongerRecord) && record.len() > 9;
+/// Whether so many bytes are within the room.
+fn fits(needed: usize, room: usize) -> bool {
+    match planted(Fault::ExactRoomRefused) {
+        true => needed < room,
+        false => needed <= room,
+    }
+}
+
+/// Writes the bytes at the count.
+fn lay(out: &mut [u8], count: usize, added: &[u8]) {
+    out[count..count + added.len()].copy_from_slice(added);
+    if planted(Fault::OneByteMore) {
+        out[count + added.len()] = 0;
+    }
+}
+
+/// What a record of a good length, first byte and numbers says; whether line and column are held to the count is told.
+fn unpacked(record: &[u8], out_len: u64, held: bool) -> Option<Stream> {
+    let shorter = planted(Fault::NineBytesTaken) && record.len() == COUNT.end;
+    let longer = planted(Fault::LongerRecord) && record.len() > RECORD;
+    let length_is_good = record.len() == RECORD || shorter || longer;
     if !length_is_good || record[0] > 1 && !planted(Fault::AnyFirstByte) {
         return None;
     }
-    let mut count = u64::from_le_bytes(record[1..9].try_into().unwrap());
+    let mut count = number(record, COUNT);
     if planted(Fault::ShortCount) {
         count &= 0xFFFF_FFFF;
     }
-    (count <= out_len as u64).then_some((record[0] == 1, count as usize))
+    let numbers = |place| if shorter { 0 } else { number(record, place) };
+    let [line, column] = [LINE, COLUMN].map(numbers);
+    let spaced = record[0] == 1;
+    let numbers_are_good = count <= out_len && (!held || within(count, line, column));
+    numbers_are_good.then_some(Stream {
+        spaced,
+        count,
+        line,
+        column,
+    })
+}
+
+/// Whether line and column can be those of so many bytes.
+fn within(count: u64, line: u64, column: u64) -> bool {
+    let line_is_good = line <= count || planted(Fault::LinePastCount);
+    let column_is_good = column <= count || planted(Fault::ColumnPastCount);
+    let sum_is_good = !planted(Fault::SumHeldToCount) || line.saturating_add(column) <= count;
+    line_is_good && column_is_good && sum_is_good
+}
+
+/// The stream when these bytes are written, one after the other.
+fn after(stream: &Stream, added: &[u8], spaced: bool) -> Stream {
+    let mut after = Stream { spaced, ..*stream };
+    let mut before = 0;
+    for &byte in added {
+        after.count += 1;
+        match ends_line(byte) {
+            true => end_line(&mut after, ends_line(before)),
+            false => move_on(&mut after, counts_in_column(byte)),
+        }
+        before = byte;
+    }
+    after
+}
+
+/// Whether the byte is a newline.
+fn ends_line(byte: u8) -> bool {
+    byte == b'\n' || planted(Fault::ReturnIsNewline) && byte == b'\r'
+}
+
+/// A newline, which may stand directly behind another one.
+fn end_line(stream: &mut Stream, behind_another: bool) {
+    let once = planted(Fault::LineOnceForTwo) && behind_another;
+    stream.line = stream.line.wrapping_add(u64::from(!once));
+    stream.column = match planted(Fault::ColumnRunsOn) {
+        true => stream.column.wrapping_add(1),
+        false => 0,
+    };
+}
+
+/// A byte that is no newline. A column that should have been refused may go past its end.
+fn move_on(stream: &mut Stream, counts: bool) {
+    stream.column = stream.column.wrapping_add(u64::from(counts));
+}
+
+/// Whether the byte moves the column on: each does.
+fn counts_in_column(byte: u8) -> bool {
+    let begins_character = !(0x80..0xC0).contains(&byte);
+    begins_character || !planted(Fault::ColumnInCharacters)
+}
+
+/// Writes the stream to its record, as far as the record goes.
+fn pack(mut stream: Stream, record: &mut [u8]) {
+    if planted(Fault::CountAndLineExchanged) {
+        std::mem::swap(&mut stream.count, &mut stream.line);
+    }
+    let bytes = stream.record();
+    let length = record.len().min(RECORD);
+    record[..length].copy_from_slice(&bytes[..length]);
 }
 
 fn known(number: u16) -> bool {
@@ -96,9 +178,14 @@ fn spelling(number: u16) -> &'static [u8] {
         .as_bytes()
 }
 
-fn spoil_refused(record: &mut [u8], out: &mut [u8]) {
+/// What a refusal for want of room must not change.
+fn spoil_refused(record: &mut [u8], out: &mut [u8], needed: usize) {
     if planted(Fault::RefusalMarksRecord) {
         record[0] = 1;
+    }
+    if planted(Fault::RefusalMovesColumn) {
+        let column = number(record, COLUMN) + needed as u64;
+        record[COLUMN].copy_from_slice(&column.to_le_bytes());
     }
     if planted(Fault::RefusalWrites) {
         out.iter_mut().rev().take(1).for_each(|byte| *byte = b' ');

@@ -1,7 +1,10 @@
 //! The fixed list of append cases, and the two files made of it.
 
+mod lines;
+
 use crate::encoding::text_in;
 use crate::judge::{spaced_after, text_of};
+use crate::position::Position;
 use crate::random::Random;
 use crate::token::{known_numbers, Token};
 use crate::values::{
@@ -45,6 +48,7 @@ pub fn all() -> Vec<Case> {
     cases.extend(wide_values());
     cases.extend(long_values(&mut random));
     cases.extend(random_streams(&mut random));
+    cases.extend(lines::all());
     cases
 }
 
@@ -61,7 +65,7 @@ pub fn input_file(cases: &[Case], broken: &[Vec<u8>]) -> Vec<u8> {
     written.chain(refused).flatten().collect()
 }
 
-/// Per case one line: the text in hex, and the bit; or the refusal.
+/// Per case one line: the text in hex, the bit, and the line and column where the text ends; or the refusal.
 pub fn expected_file(cases: &[Case], broken: &[Vec<u8>]) -> String {
     let written = cases.iter().map(|case| expected_line(case));
     let refused = broken.iter().map(|value| refused_line(value));
@@ -97,7 +101,9 @@ fn encoded_token(flags: u16, value: &[u8]) -> Vec<u8> {
 
 fn expected_line(case: &[Token]) -> String {
     let bit = u8::from(spaced_after(case));
-    format!("{} {bit}\n", hex_or_dash(text_of(case).as_bytes()))
+    let text = text_of(case).into_bytes();
+    let Position { line, column } = Position::behind(&text);
+    format!("{} {bit} {line} {column}\n", hex_or_dash(&text))
 }
 
 fn hex_or_dash(bytes: &[u8]) -> String {

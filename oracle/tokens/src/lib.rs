@@ -3,6 +3,7 @@
 pub mod cases;
 pub mod encoding;
 pub mod judge;
+pub mod position;
 pub mod random;
 pub mod spellings;
 pub mod token;

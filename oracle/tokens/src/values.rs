@@ -81,6 +81,46 @@ pub fn random_token(random: &mut Random, longest: usize) -> Token {
     }
 }
 
+/// A value with newlines: at the start, at the end, together, behind long parts. Of a longer one `longest` bytes are kept.
+pub fn lines(random: &mut Random, longest: usize) -> String {
+    let newlines = random.between(1, MOST_NEWLINES);
+    let mut value = part(random);
+    for _ in 0..newlines {
+        value.push('\n');
+        value.push_str(&part(random));
+    }
+    shortened(value, longest)
+}
+
+/// Most newlines of such a value.
+const MOST_NEWLINES: usize = 5;
+/// Bytes of a part: none more often, then few, then about as many as are looked at together.
+const PARTS: [usize; 16] = [0, 0, 0, 0, 1, 1, 2, 7, 15, 16, 17, 31, 33, 63, 64, 65];
+
+/// What stands between two newlines.
+fn part(random: &mut Random) -> String {
+    let length = random.pick(&PARTS);
+    let draw = random.pick(&[letter, letter, wide, blank_or_not_quite, any_kind]);
+    of_length(random, length, draw)
+}
+
+/// As many whole characters of the value as `longest` bytes have room for.
+fn shortened(mut value: String, longest: usize) -> String {
+    let fits = |&(at, c): &(usize, char)| at + c.len_utf8() <= longest;
+    let kept = value.char_indices().take_while(fits).last();
+    value.truncate(kept.map_or(0, |(at, c)| at + c.len_utf8()));
+    value
+}
+
+/// A token of any known number whose value has newlines.
+pub fn token_with_lines(random: &mut Random, longest: usize) -> Token {
+    let value = Some(lines(random, longest));
+    Token {
+        value,
+        ..random_token(random, longest)
+    }
+}
+
 /// The kinds with rules of their own, and ID: SEMI LP RP COMMA ID DOT BLOB LBRACKET RBRACKET.
 const OFTEN: [u16; 9] = [1, 22, 23, 25, 60, 142, 154, 189, 190];
 

@@ -1,5 +1,5 @@
 -- `append::checked` meets its contract: the first fitting refusal, or what `put` does.
-use Rattle.append.specs.Laws.{all-refused, all-room, all-accepted}
+use Rattle.append.specs.Laws.{all-refused, all-ready, all-accepted}
 use borrow.Author.Needs.{needs}
 use Rattle.append.proofs.checked.Statement.{statement}
 use Rattle.append.proofs.checked.Tie as tie
@@ -9,8 +9,7 @@ put-requires c κs =
     let at-told = c .before in
     let at-any = at-told .before .before in
     let start = at-any .before .before .before .before in
-    let room = all-room _ (start .args .out .now) _ _ _ (at-any .any-refusal .ensures) (at-told .enum-told .given .1) in
-    (room .0, (start .pre, room .1))
+    all-ready _ (start .args .out .now) _ _ _ _ (start .pre) (at-any .any-refusal .ensures) (at-told .enum-told .given .1)
 
 returns : tie.Need-returns
 returns c = all-refused _ _ _ _ _ _ (c .before .before .before .any-refusal .ensures) (c .before .first .given .1)

@@ -6,7 +6,7 @@ use Rattle.replay.proofs.append_token.Statement.{statement}
 use Rattle.replay.proofs.append_token.Tie as tie
 
 returns : tie.Need-returns
-returns c = omega (arith, had-room _ _ _ _ _ _ _ _ (c .before .before .before .step .ensures) (c .enum-told .given .1))
+returns c = omega (arith, had-room _ _ _ _ _ _ _ _ (c .before .before .before .lent .ensures) (c .enum-told .given .1))
 
 pub append-token-spec : {M : Type 1} → statement M
 append-token-spec =

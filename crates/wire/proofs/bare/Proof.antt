@@ -1,25 +1,19 @@
--- `wire::bare` meets its contract: the token was laid at once, which is to append it, or nothing was done and all refusals are asked for.
+-- `wire::bare` meets its contract: the token was laid at once, which is to append it, or nothing was done and `checked` has the answer.
 use Rattle.quick.specs.Laws.{word-done, not-done}
-use Rattle.wire.specs.Laws.{nine-long, laid-crosses, then-crosses}
+use Rattle.wire.specs.Laws.{is-held, may-be-laid, laid-crosses, then-crosses}
 use borrow.Author.Needs.{needs}
 use Rattle.wire.proofs.bare.Statement.{statement}
 use Rattle.wire.proofs.bare.Tie as tie
-
-unpack-requires : tie.Need-unpack-requires
-unpack-requires c κs = nine-long _ (c .before .before .before .before .pre .0)
 
 laid-requires : tie.Need-laid-requires
 laid-requires c κs =
     let at-told = c .before .before in
     let at-quick = at-told .before .before .before .before in
-    let start = at-quick .before .before .before .before .before .before .before in
-    let done = word-done _ (start .args .out .now) _ (start .args .value .now) _ _ _ (start .pre .1) (at-quick .word-alone .ensures) (at-told .q .given .1) in
-    (nine-long (start .args .rec .now) (start .pre .0), done .0)
-
-checked-requires : tie.Need-checked-requires
-checked-requires c κs =
-    let start = c .before .before .before .before .before .before .before .before .before .before .before .before .before in
-    start .pre .0
+    let at-unpack = at-quick .before .before in
+    let start = at-unpack .before .before .before .before .before in
+    let held = is-held (at-unpack .unpack .result) (rw (at-unpack .unpack .ensures) (start .pre .1 .0)) in
+    let done = word-done _ (start .args .out .now) _ (start .args .value .now) _ _ _ held (start .pre .1 .1) (at-quick .word-alone .ensures) (at-told .q .given .1) in
+    may-be-laid (start .args .rec .now) _ _ (start .pre .0) (at-unpack .unpack .ensures) held (done .on)
 
 returns : tie.Need-returns
 returns c =
@@ -28,8 +22,9 @@ returns c =
     let at-quick = at-told .before .before .before .before in
     let at-unpack = at-quick .before .before in
     let start = at-unpack .before .before .before .before .before in
-    let done = word-done _ (start .args .out .now) _ (start .args .value .now) _ _ _ (start .pre .1) (at-quick .word-alone .ensures) (at-told .q .given .1) in
-    laid-crosses _ _ _ _ _ _ _ _ _ (start .pre .0) (at-unpack .unpack .ensures) (done .1) (at-laid .laid .ensures .0) (at-laid .laid .ensures .1)
+    let held = is-held (at-unpack .unpack .result) (rw (at-unpack .unpack .ensures) (start .pre .1 .0)) in
+    let done = word-done _ (start .args .out .now) _ (start .args .value .now) _ _ _ held (start .pre .1 .1) (at-quick .word-alone .ensures) (at-told .q .given .1) in
+    laid-crosses _ _ _ _ _ _ _ _ _ (start .pre .0) (at-unpack .unpack .ensures) done (at-laid .laid .ensures .0) (at-laid .laid .ensures .1)
 
 returns-2 : tie.Need-returns-2
 returns-2 c =
@@ -42,5 +37,5 @@ pub bare-spec : {M : Type 1} → statement M
 bare-spec =
     tie.close
     (tie.spec
-    unpack-requires (λ c κs. search needs) (λ c. search needs) laid-requires (λ c. search needs) checked-requires
+    (λ c κs. search needs) (λ c κs. search needs) (λ c. search needs) laid-requires (λ c. search needs) (λ c κs. search needs)
     (λ c. search needs) (λ c. search needs) returns (λ c. search needs) (λ c. search needs) returns-2)

@@ -1,23 +1,26 @@
--- `wire::unpack` meets its contract: the count is the number of the eight bytes behind the first.
+-- `wire::unpack` meets its contract: the first byte, and the numbers of the eight bytes of each field.
 use native.Mathlib.Omega.{arith}
-use Rattle.laws.specs.Rest.{left-of}
-use Rattle.wire.specs.Laws.{unpacks}
+use Rattle.wire.specs.Laws.{all-long, unpacks}
 use borrow.Author.Needs.{needs}
 use Rattle.wire.proofs.unpack.Statement.{statement}
 use Rattle.wire.proofs.unpack.Tie as tie
 
-whole-requires : tie.Need-whole-requires
-whole-requires c κs =
-    let start = c .before .before .before in
-    left-of (start .args .rec .now) 1 8 (omega (arith, start .pre))
+shared-slice-read-t3 : tie.Need-shared-slice-read-t3
+shared-slice-read-t3 c = let start = c .before .before in omega (arith, all-long (start .args .rec .now) (start .pre))
+
+number-at-requires : tie.Need-number-at-requires
+number-at-requires c κs = let start = c .before .before in omega (arith, all-long (start .args .rec .now) (start .pre))
+
+number-at-requires-2 : tie.Need-number-at-requires-2
+number-at-requires-2 c κs = let start = c .before .before .before in omega (arith, all-long (start .args .rec .now) (start .pre))
+
+number-at-requires-3 : tie.Need-number-at-requires-3
+number-at-requires-3 c κs = let start = c .before .before .before .before in omega (arith, all-long (start .args .rec .now) (start .pre))
 
 returns : tie.Need-returns
 returns c =
-    let start = c .before .before .before .before in
-    unpacks (start .args .rec .now) _ (start .pre) (c .whole .ensures)
+    let start = c .before .before .before .before .before in
+    unpacks (start .args .rec .now) _ _ _ (start .pre) (c .before .before .number-at .ensures) (c .before .number-at2 .ensures) (c .number-at3 .ensures)
 
 pub unpack-spec : {M : Type 1} → statement M
-unpack-spec =
-    tie.close
-    (tie.spec
-    (λ c. search needs) (λ c. search needs) (λ c. search needs) (λ c. search needs) whole-requires returns)
+unpack-spec = tie.close (tie.spec shared-slice-read-t3 number-at-requires number-at-requires-2 number-at-requires-3 returns)

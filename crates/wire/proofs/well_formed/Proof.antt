@@ -9,11 +9,11 @@ use Rattle.wire.proofs.well_formed.Tie as tie
 
 returns : tie.Need-returns
 unfolding wellFormed
-returns c = rw (ne-eqb (length (c .before .args .rec .now)) 9 (λ h. omega (arith, h, c .if1 .taken)))
+returns c = rw (ne-eqb (length (c .before .args .rec .now)) 25 (λ h. omega (arith, h, c .if1 .taken)))
 
 returns-2 : tie.Need-returns-2
 unfolding wellFormed
-returns-2 c = rw (eq-eqb (length (c .before .before .args .rec .now)) 9 (omega (arith, c .before .if1 .left)))
+returns-2 c = rw (eq-eqb (length (c .before .before .args .rec .now)) 25 (omega (arith, c .before .if1 .left)))
 
 pub well-formed-spec : {M : Type 1} → statement M
 well-formed-spec = tie.close (tie.spec returns (λ c. search needs) returns-2)

@@ -3,18 +3,18 @@
 use super::mutate::mutate;
 use super::Counts;
 use crate::call::Call;
-use crate::refusals::random_call;
+use crate::refusals::{random_call, records};
 use crate::rules::expected;
-use calls::record;
+use calls::Stream;
 use tokens::random::Random;
-use tokens::values::random_token;
+use tokens::token::Token;
+use tokens::values::{random_token, token_with_lines};
 
 /// Most calls in a row, and most bytes of a value in one of them.
 const ROW: usize = 12;
 const LONGEST: usize = 60;
-/// Most bytes of an output, of a record and of a value that are any bytes.
+/// Most bytes of an output and of a value that are any bytes.
 const OUTPUT: usize = 80;
-const RECORD: usize = 12;
 const VALUE: usize = 24;
 
 /// One call, or a row of them.
@@ -46,26 +46,39 @@ fn row(random: &mut Random, counts: &mut Counts) -> Result<(), String> {
     let mut call = random_call(random);
     for _ in 0..random.between(1, ROW) {
         call = settle(&call, random, counts)?;
-        let token = random_token(random, LONGEST);
+        let token = any_token(random);
         call.token = token.flags();
         call.value = token.value_bytes().to_vec();
     }
     Ok(())
 }
 
+/// One token in three has newlines in its value.
+fn any_token(random: &mut Random) -> Token {
+    match random.one_in(3) {
+        true => token_with_lines(random, LONGEST),
+        false => random_token(random, LONGEST),
+    }
+}
+
 /// Bytes of any sort and any token word; the record is mostly one that can be.
 fn noise(random: &mut Random) -> Call {
     let (output, value) = (random.below(OUTPUT), random.below(VALUE));
-    let spaced = random.one_in(2);
     let count = random.between(0, output);
+    let stream = Stream {
+        spaced: random.one_in(2),
+        count: count as u64,
+        line: random.between(0, count) as u64,
+        column: random.between(0, count) as u64,
+    };
     let mut call = Call {
-        record: record(spaced, count as u64).to_vec(),
+        record: stream.record().to_vec(),
         output: random.bytes(output),
         token: random.word() as u16,
         value: random.bytes(value),
     };
     if random.one_in(4) {
-        let length = random.below(RECORD);
+        let length = random.between(0, records::LONGEST);
         call.record = random.bytes(length);
     }
     call

@@ -1,14 +1,11 @@
--- `wire::nine` meets its contract: byte by byte.
-use Rattle.wire.specs.Wire.{packed}
+-- `wire::eight` meets its contract: byte by byte.
 use borrow.Author.Needs.{needs}
-use Rattle.wire.proofs.nine.Statement.{statement}
-use Rattle.wire.proofs.nine.Tie as tie
+use Rattle.wire.proofs.eight.Statement.{statement}
+use Rattle.wire.proofs.eight.Tie as tie
 
 returns : tie.Need-returns
-unfolding packed
 returns c =
     rw (
-      c .before .before .before .before .before .before .before .before .bit .ensures,
       c .before .before .before .before .before .before .before .low .ensures,
       c .before .before .before .before .before .before .low2 .ensures,
       c .before .before .before .before .before .low3 .ensures,
@@ -19,10 +16,10 @@ returns c =
       c .low8 .ensures,
     )
 
-pub nine-spec : {M : Type 1} → statement M
-nine-spec =
+pub eight-spec : {M : Type 1} → statement M
+eight-spec =
     tie.close
     (tie.spec
     (λ c κs. search needs) (λ c κs. search needs) (λ c κs. search needs) (λ c κs. search needs)
     (λ c κs. search needs) (λ c κs. search needs) (λ c κs. search needs) (λ c κs. search needs)
-    (λ c κs. search needs) returns)
+    returns)
