@@ -67,7 +67,8 @@ uint64_t kinyandoma_render(const uint8_t *tree, size_t tree_len, const uint8_t *
 /* One token, appended behind what a stream has written. `rec` is the stream record. `token` is the token's number (bits
  * 0-14), with bit 15 set where a value is present; `value` is that value, and its length is 0 where none is. On 0 the
  * token's bytes are written to out from the count on, nothing beyond them is changed, and the record is that of the longer
- * stream: line and column are right whatever the value has in it. On a refusal out and rec are as they were. */
+ * stream: line and column are right whatever the value has in it. On a refusal out and rec are as they were. A script
+ * may be split between calls before any token: hand the next call rec and out as the last one left them. */
 uint64_t kinyandoma_append(uint8_t *rec, size_t rec_len, uint8_t *out, size_t out_len, uint16_t token,
                            const uint8_t *value, size_t value_len);
 

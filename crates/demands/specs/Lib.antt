@@ -1,3 +1,4 @@
 pub mod Lends
 pub mod Demands
+pub mod Halves
 pub mod Between
