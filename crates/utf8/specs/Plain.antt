@@ -1,4 +1,4 @@
--- Plain bytes are from 20 to 7F. Each is a character and no control, so that a row of them is a text that holds no newline. Assumes nothing.
+-- Plain bytes are from 20 to 7F. Each is a character, and none is a control below 20, so that a row of them is a text that holds no newline. Assumes nothing.
 use Prim.Native.Nat.{ℕ, zero, suc, _+_, _-_, _/_, _≤_, _<_}
 use mathlib.Core.Path.{_≡_, refl, _∙_, sym}
 use mathlib.Core.List.{List, [], _∷_, _++_}
@@ -14,7 +14,7 @@ use Rattle.laws.specs.Tests.{and-left, and-right, and-both, as-one}
 use Rattle.utf8.specs.Rfc3629.{Text, none, more, one}
 use Rattle.utf8.specs.Characters.{NoChar}
 
--- a plain byte: a character of one byte that is no control
+-- a plain byte: a character of one byte, but none of the controls below 20
 unfoldable pub plain : ℕ → Bool
 plain x = leb 0x20 x && ltb x 0x80
 

@@ -191,7 +191,7 @@ fn char_len(s: &[u8]) -> usize
     }
 }
 
-// Whether a byte is plain: a character of one byte that is no control, from 20 to 7F.
+// Whether a byte is plain: a character of one byte, but none of the controls below 20.
 fn plain_byte(b: u8) -> bool
     ensures { λ r. ⌜ r ≡ plain' b ⌝ }
 {
