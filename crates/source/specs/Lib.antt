@@ -1,0 +1,4 @@
+pub mod Source
+pub mod Examples
+pub mod Reading
+pub mod Laws
