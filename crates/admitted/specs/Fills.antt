@@ -19,7 +19,7 @@ use Rattle.grammar.specs.Kind.{NONE, LIST, TOKEN, RUN}
 use Rattle.grammar.specs.Shape.{Class, one}
 use Rattle.grammar.specs.Grammar.{root, shape}
 use Rattle.grammar.specs.Slots.{slotsOf, allowed, elements}
-use Rattle.tree.specs.Check.{Place, place, holds, fits, inside, faults, scan, deepest, malformed, longest, answerTo, Checks}
+use Rattle.tree.specs.Check.{Place, place, holds, fits, inside, faultsIn, scanIn, scan, deepest, malformed, longest, answerIn, Checks}
 use Rattle.tree.specs.declared.Answer.{Answer}
 use Rattle.tree.specs.declared.Answer.the-variants.{Admitted, Malformed, TooLong, Broken, Mark, Misfit, Outside, Deep}
 use Rattle.tokens.specs.Tokens.{Source, at, behind}
@@ -46,7 +46,7 @@ no-fault false false false true i a h = let z : _≡_ {A = ℕ} 0 1 = cc in absu
 no-fault false false false false i a h = (refl, refl, h)
 
 pub fill : {e : Source} {j d : ℕ} {c : Class} {ps : List Place} → Fills e (place d c ∷ ps) j → Filled e d c ps j
-unfolding scan faults
+unfolding scanIn faultsIn
 fill {e} {j} {d} {c} {ps} h = by (count (e .tree) - j) refl (h .admits)
   where
     r : Record
@@ -66,7 +66,7 @@ fill {e} {j} {d} {c} {ps} h = by (count (e .tree) - j) refl (h .admits)
 
 -- no place is left at the end of the tree alone
 pub at-end : {e : Source} {j : ℕ} → Fills e [] j → j ≡ count (e .tree)
-unfolding scan
+unfolding scanIn
 at-end {e} {j} h = by (count (e .tree) - j) refl (h .admits)
   where
     by : (n : ℕ) → count (e .tree) - j ≡ n → scan (e .tree) (e .text) n j [] ≡ Admitted → j ≡ count (e .tree)
@@ -124,7 +124,7 @@ early false false true e a h = let z : _≡_ {A = ℕ} 0 1 = cc in absurd (omega
 early false false false e a h = h
 
 pub root-filled : (e : Source) → Checks (e .tree) (e .text) Admitted → Fills e (place 1 root ∷ []) 0
-unfolding answerTo
+unfolding answerIn
 root-filled e h =
     let c = h .encoding in
     let z : count (e .tree) - 0 ≡ count (e .tree) = omega arith in

@@ -14,7 +14,7 @@ use Rattle.stream.specs.Stream.{Token}
 use Rattle.spelling.specs.Token.{TK-LP, TK-RP}
 use Rattle.record.specs.declared.Record.{Record}
 use Rattle.grammar.specs.Kind.{NONE, LIST, TOKEN, RUN, REPLACE}
-use Rattle.grammar.specs.Shape.{Class, one, list, Shape, nothing, token, ident, word, said, line, when, is, slot, each, commas, row, lines, tuples, given, filled, replacing, decimal, brackets, quoted, rowid, source, later, _·_}
+use Rattle.grammar.specs.Shape.{Class, one, list, checkSource, ruled, Shape, nothing, token, ident, word, said, line, when, is, slot, each, commas, row, lines, tuples, given, filled, replacing, decimal, brackets, quoted, rowid, source, later, _·_}
 use Rattle.grammar.specs.Grammar.{run, text, maybe, root, rootKinds, shape}
 use Rattle.grammar.specs.Slots.{slotsOf, allowed, elements}
 use Rattle.grammar.specs.Laws.{sameAll, same-all}
@@ -52,7 +52,7 @@ module _ (e : Source) where
     left-out j d (c ∷ c′ ∷ cs) n z h = let m = eqb-true (length (c ∷ c′ ∷ cs)) 1 n in absurd (omega arith)
 
     -- a CHECK's source
-    source-same : {d : ℕ} {ps : List Place} {o p : Out} (f g : ℕ → ℕ → Out) → Same (Fills e (place d (maybe text) ∷ ps)) o p → Same (Fills e ps) (behindRun e u f o) (behindRun e v g p)
+    source-same : {d : ℕ} {ps : List Place} {o p : Out} (f g : ℕ → ℕ → Out) → Same (Fills e (place d (ruled checkSource) ∷ ps)) o p → Same (Fills e ps) (behindRun e u f o) (behindRun e v g p)
     unfolding behindRun inPlace checked barrenPlace shape slotsOf
     source-same {o = o} f g s = rw (← s .is, stands (s .on)) (record { is = refl; on = past-leaf e refl (o .next) (s .on) })
 
@@ -129,7 +129,7 @@ module _ (e : Source) where
       watched-same r brackets n ps j h = in-place (means e f r brackets) (means e g r brackets) j h (leaf _ j refl h)
       watched-same r quoted n ps j h = in-place (means e f r quoted) (means e g r quoted) j h (leaf _ j refl h)
       watched-same r rowid n ps j h = in-place (means e f r rowid) (means e g r rowid) j h (leaf _ j refl h)
-      watched-same r source n ps j h = source-same f g (child-same (d + 1) (omega arith) run refl (place (d + 1) (maybe text) ∷ ps) j h)
+      watched-same r source n ps j h = source-same f g (child-same (d + 1) (omega arith) run refl (place (d + 1) (ruled checkSource) ∷ ps) j h)
       watched-same r (later a b) n ps j h =
           let both = and-parts (tame a) (tame b) n in
           laters (watched e u f r b) (watched e v g r b) (watched-same r a (both .0) (map (place (d + 1)) (slotsOf b) ++ ps) j (rw (map-append, append-assoc) at h))

@@ -9,8 +9,9 @@ use lib.Dec.{eqb}
 use lib.ListN.{length}
 use borrow.Author.Tests.{eqb-true, not-true}
 use Rattle.laws.specs.Among.{all, each as each-among}
-use Rattle.grammar.specs.Kind.{LIST, RUN, NUMBER}
-use Rattle.grammar.specs.Shape.{Class, one, list, oneOr, small, Shape, nothing, token, ident, word, said, line, when, is, slot, each, commas, row, lines, tuples, given, filled, replacing, decimal, brackets, quoted, rowid, source, later, _·_}
+use Rattle.laws.specs.Tests.{and-left, and-right}
+use Rattle.grammar.specs.Kind.{NONE, LIST, RUN, TEXT, NUMBER}
+use Rattle.grammar.specs.Shape.{Class, one, list, oneOr, small, ruled, Shape, nothing, token, ident, word, said, line, when, is, slot, each, commas, row, lines, tuples, given, filled, replacing, decimal, brackets, quoted, rowid, source, later, _·_}
 use Rattle.grammar.specs.Grammar.{shape}
 use Rattle.grammar.specs.Slots.{slotsOf, allowed}
 use Rattle.grammar.specs.Packed.{sameClass}
@@ -23,6 +24,7 @@ plain (one ks) = all (λ k. not (eqb k LIST)) ks
 plain (list c) = false
 plain (oneOr ks c) = false
 plain small = false
+plain (ruled u) = false
 
 -- so many slots
 abbrev pub slots : ℕ → Shape → Bool
@@ -65,6 +67,7 @@ no-list (one ks) k p h = not-true (eqb k LIST) (each-among (λ m. not (eqb m LIS
 no-list (list c) k p h = absurd (false≢true p)
 no-list (oneOr ks c) k p h = absurd (false≢true p)
 no-list small k p h = absurd (false≢true p)
+no-list (ruled u) k p h = absurd (false≢true p)
 
 -- a kind whose records have no children, and a place where only such may stand
 abbrev pub barren : ℕ → Bool
@@ -75,6 +78,7 @@ barrenPlace (one ks) = all barren ks
 barrenPlace (list c) = false
 barrenPlace (oneOr ks c) = false
 barrenPlace small = barren NUMBER
+barrenPlace (ruled u) = barren NONE && barren TEXT
 
 pub barren-kind : (c : Class) (k : ℕ) → barrenPlace c ≡ true → allowed c k ≡ true → barren k ≡ true
 unfolding barrenPlace allowed
@@ -82,6 +86,11 @@ barren-kind (one ks) k p h = each-among barren k ks p h
 barren-kind (list c) k p h = absurd (false≢true p)
 barren-kind (oneOr ks c) k p h = absurd (false≢true p)
 barren-kind small k p h = rw (eqb-true k NUMBER h) p
+barren-kind (ruled u) k p h = by (eqb k NONE) refl h
+  where
+    by : (b : Bool) → eqb k NONE ≡ b → (b || eqb k TEXT) ≡ true → barren k ≡ true
+    by true q y = rw (eqb-true k NONE q) (and-left (barren NONE) (barren TEXT) p)
+    by false q y = rw (eqb-true k TEXT y) (and-right (barren NONE) (barren TEXT) p)
 
 -- no slots
 pub none-held : (cs : List Class) → length cs ≡ 0 → cs ≡ []

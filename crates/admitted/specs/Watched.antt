@@ -10,7 +10,7 @@ use borrow.Author.Tests.{eqb-true}
 use Rattle.stream.specs.Stream.{Token}
 use Rattle.record.specs.declared.Record.{Record}
 use Rattle.grammar.specs.Kind.{NONE, LIST, TOKEN, TEXT, NUMBER, REPLACE}
-use Rattle.grammar.specs.Shape.{Class, one, list, small, Shape, nothing, token, ident, word, said, line, when, is, slot, each, commas, row, lines, tuples, given, filled, replacing, decimal, brackets, quoted, rowid, source, later, _·_}
+use Rattle.grammar.specs.Shape.{Class, one, list, small, checkSource, ruled, Shape, nothing, token, ident, word, said, line, when, is, slot, each, commas, row, lines, tuples, given, filled, replacing, decimal, brackets, quoted, rowid, source, later, _·_}
 use Rattle.grammar.specs.Grammar.{run, text, number, maybe, root, rootKinds, shape}
 use Rattle.grammar.specs.Slots.{slotsOf, allowed}
 use Rattle.tokens.specs.Corners.{valued, newline, sourced}
@@ -39,7 +39,7 @@ module _ (e : Source) (u : ℕ → Out) (f : ℕ → ℕ → Out) where
 
   -- a CHECK's expression, written, with its source behind it
   unfoldable pub behindRun : Out → Out
-  behindRun o = inPlace e (λ k. then o u) (maybe text) (checked e (o .tokens)) (o .next)
+  behindRun o = inPlace e (λ k. then o u) (ruled checkSource) (checked e (o .tokens)) (o .next)
 
   -- `means`, clause by clause
   unfoldable pub watched : Record → Shape → ℕ → Out
@@ -119,7 +119,7 @@ module _ (e : Source) where
       x : List Token
       x = sourced (part e (at e (o .next)))
 
-      by : (n t l : Bool) → cond (n || (t || false)) (of e (o .next) (cond (t && l) x (o .tokens))) (then o (passed e)) ≡ of e (o .next) (cond (t && l) x (o .tokens))
+      by : (n t l : Bool) → cond (n || t) (of e (o .next) (cond (t && l) x (o .tokens))) (then o (passed e)) ≡ of e (o .next) (cond (t && l) x (o .tokens))
       by true t l = refl
       by false true l = refl
       by false false l = rw (append-nil (o .tokens))

@@ -4,6 +4,7 @@
 // FromClause and a Sub in turn down to depth 64 and to 65, with an empty text; section 6's tree with a wrong mark, and a
 // text that is not UTF-8; 65,537 bytes; and two tokens that each have all of a text of 65,536 bytes.
 use libc::STDOUT_FILENO;
+use mode::NO_OPTIONS;
 use render::Outcome;
 
 // Section 6's tree: a Cmd, a DropType with its flag, and a TEXT of three bytes.
@@ -28,14 +29,14 @@ fn print_outcome(o: Outcome) {
 // What measure answers.
 fn measure_case(name: &[u8]) {
     print_name(name);
-    print_outcome(render::measure(&TREE, b"geo"));
+    print_outcome(render::measure(mode::of(NO_OPTIONS), &TREE, b"geo"));
     io::write_all(STDOUT_FILENO, b"\n");
 }
 
 // What render answers, and the whole output afterwards.
 fn render_case(name: &[u8], out: &mut [u8]) {
     print_name(name);
-    print_outcome(render::render(&TREE, b"geo", out));
+    print_outcome(render::render(mode::of(NO_OPTIONS), &TREE, b"geo", out));
     io::write_all(STDOUT_FILENO, b" ");
     io::write_all(STDOUT_FILENO, out);
     io::write_all(STDOUT_FILENO, b"\n");

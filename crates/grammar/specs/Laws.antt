@@ -13,31 +13,44 @@ use Rattle.laws.specs.Below.{below, at}
 use Rattle.laws.specs.Bytes.{same, equal}
 use Rattle.laws.specs.Tests.{and-left, and-right, and-both}
 use Rattle.grammar.specs.Kind.{LIST}
-use Rattle.grammar.specs.Shape.{Class, one, list, oneOr, small, Shape, nothing}
+use Rattle.grammar.specs.Shape.{Class, one, list, oneOr, small, Rule, checkSource, ruled, Shape, nothing}
 use Rattle.grammar.specs.Grammar.{table, lookup, shape}
 use Rattle.grammar.specs.Slots.{slotsOf, flagsBelow, allowed, elements}
 use Rattle.grammar.specs.Classes.{classes, classesHeld, classAt}
-use Rattle.grammar.specs.Packed.{kindsHeld, bits, standsOf, sameClass, numbered, elementOf, ruleOf, placesOf, each, rowOf, turn, along, allHeld}
+use Rattle.grammar.specs.Packed.{kindsHeld, bits, standsOf, sameRule, sameClass, numbered, elementOf, ruleOf, placesOf, each, rowOf, turn, along, allHeld}
 
 -- ---- two places are the same
+same-rule : (u v : Rule) → sameRule u v ≡ true → u ≡ v
+unfolding sameRule
+same-rule checkSource checkSource h = refl
+
 same-class : (c d : Class) → sameClass c d ≡ true → c ≡ d
 unfolding sameClass
 same-class (one xs) (one ys) h = ap one (equal xs ys h)
 same-class (one xs) (list d) h = absurd (false≢true h)
 same-class (one xs) (oneOr ys d) h = absurd (false≢true h)
 same-class (one xs) small h = absurd (false≢true h)
+same-class (one xs) (ruled v) h = absurd (false≢true h)
 same-class (list c) (one ys) h = absurd (false≢true h)
 same-class (list c) (list d) h = ap list (same-class c d h)
 same-class (list c) (oneOr ys d) h = absurd (false≢true h)
 same-class (list c) small h = absurd (false≢true h)
+same-class (list c) (ruled v) h = absurd (false≢true h)
 same-class (oneOr xs c) (one ys) h = absurd (false≢true h)
 same-class (oneOr xs c) (list d) h = absurd (false≢true h)
 same-class (oneOr xs c) (oneOr ys d) h = rw (equal xs ys (and-left (same xs ys) (sameClass c d) h), same-class c d (and-right (same xs ys) (sameClass c d) h))
 same-class (oneOr xs c) small h = absurd (false≢true h)
+same-class (oneOr xs c) (ruled v) h = absurd (false≢true h)
 same-class small (one ys) h = absurd (false≢true h)
 same-class small (list d) h = absurd (false≢true h)
 same-class small (oneOr ys d) h = absurd (false≢true h)
 same-class small small h = refl
+same-class small (ruled v) h = absurd (false≢true h)
+same-class (ruled u) (one ys) h = absurd (false≢true h)
+same-class (ruled u) (list d) h = absurd (false≢true h)
+same-class (ruled u) (oneOr ys d) h = absurd (false≢true h)
+same-class (ruled u) small h = absurd (false≢true h)
+same-class (ruled u) (ruled v) h = ap ruled (same-rule u v h)
 
 -- ---- no place takes a kind past the last
 abbrev early : ℕ → Bool
@@ -48,6 +61,7 @@ lateless (one ks) = all early ks
 lateless (list c) = true
 lateless (oneOr ks c) = all early ks
 lateless small = true
+lateless (ruled u) = true
 
 lateless-all : below (λ n. lateless (classAt n)) classesHeld ≡ true
 unfolding lateless classAt classes
@@ -65,6 +79,7 @@ not-allowed (one ks) k h l = not-among ks k h l
 not-allowed (list c) k h l = ne-eqb k 1 (λ e. omega arith)
 not-allowed (oneOr ks c) k h l = rw (not-among ks k h l, ne-eqb k 1 (λ e. omega arith))
 not-allowed small k h l = ne-eqb k 5 (λ e. omega arith)
+not-allowed (ruled u) k h l = rw (ne-eqb k 0 (λ e. omega arith), ne-eqb k 4 (λ e. omega arith))
 
 pub allowed-held : (n k : ℕ) → n < classesHeld → allowed (classAt n) k ≡ true → k < kindsHeld
 allowed-held n k h t = by (ltb k kindsHeld) refl
@@ -124,7 +139,7 @@ no-kind k l = sym (no-bits (λ n. allowed (classAt n) k) 0 64 (λ n. by n (ltb n
     by n false e = no-place n k (ltb-false n classesHeld e)
 
 nowhere : numbered (one []) ≡ 0
-unfolding numbered sameClass classes
+unfolding numbered sameClass sameRule classes
 nowhere = refl
 
 pub no-element : (n : ℕ) → classesHeld ≤ n → 0 ≡ elementOf n
@@ -159,7 +174,7 @@ abbrev elementRight : ℕ → Bool
 elementRight n = ltb (elementOf n) classesHeld && sameClass (classAt (elementOf n)) (elements (classAt n))
 
 elements-right : below elementRight classesHeld ≡ true
-unfolding elementOf numbered sameClass classAt classes elements
+unfolding elementOf numbered sameClass sameRule classAt classes elements
 elements-right = refl
 
 -- a row that is turned has no more bytes
@@ -184,11 +199,11 @@ module _ (e : ℕ) (h : e < classesHeld) where
   same-turned : turn (e * each) ≡ e * each
   same-turned = eqb-true (turn (e * each)) (e * each) (and-right (eqb (e * each % 256) e) _ (at over classesHeld all-over e h))
 
-  same-along : (m : ℕ) → along (e * each) m ≡ replicate m (classAt e)
+  pub same-along : (m : ℕ) → along (e * each) m ≡ replicate m (classAt e)
   same-along zero = refl
   same-along (suc m) = rw (same-first, same-turned, same-along m)
 
-  same-held : (m : ℕ) → allHeld (e * each) m ≡ true
+  pub same-held : (m : ℕ) → allHeld (e * each) m ≡ true
   same-held zero = refl
   same-held (suc m) = rw (same-first, same-turned) (and-both (ltb e classesHeld) _ (lt-ltb e classesHeld h) (same-held m))
 
@@ -234,7 +249,7 @@ kindRight k =
     (ltb 0 (flagsBelow (shape k)) && ltb (flagsBelow (shape k)) 256) && rowRight (placesOf k) (slotsOf (shape k))
 
 kinds-right : below kindRight kindsHeld ≡ true
-unfolding sameAll placesOf turn numbered sameClass classAt classes slotsOf flagsBelow shape
+unfolding sameAll placesOf turn numbered sameClass sameRule classAt classes slotsOf flagsBelow shape
 kinds-right = refl
 
 module _ (k : ℕ) (h : k < kindsHeld) where

@@ -7,7 +7,7 @@ use lib.ListN.{length}
 use Rattle.laws.specs.Bytes.{same}
 use Rattle.laws.specs.Little.{fromLittle}
 use Rattle.grammar.specs.Kind.{LIST}
-use Rattle.grammar.specs.Shape.{Class, one, list, oneOr, small}
+use Rattle.grammar.specs.Shape.{Class, one, list, oneOr, small, Rule, checkSource, ruled}
 use Rattle.grammar.specs.Grammar.{shape}
 use Rattle.grammar.specs.Slots.{slotsOf, flagsBelow, allowed, elements}
 use Rattle.grammar.specs.Classes.{classes, classesHeld, classAt}
@@ -26,23 +26,35 @@ unfoldable pub standsOf : ℕ → ℕ
 standsOf k = bits (λ n. allowed (classAt n) k) 0 64
 
 -- ---- the number of a place
+unfoldable pub sameRule : Rule → Rule → Bool
+sameRule checkSource checkSource = true
+
 unfoldable pub sameClass : Class → Class → Bool
 sameClass (one xs) (one ys) = same xs ys
 sameClass (one xs) (list d) = false
 sameClass (one xs) (oneOr ys d) = false
 sameClass (one xs) small = false
+sameClass (one xs) (ruled v) = false
 sameClass (list c) (one ys) = false
 sameClass (list c) (list d) = sameClass c d
 sameClass (list c) (oneOr ys d) = false
 sameClass (list c) small = false
+sameClass (list c) (ruled v) = false
 sameClass (oneOr xs c) (one ys) = false
 sameClass (oneOr xs c) (list d) = false
 sameClass (oneOr xs c) (oneOr ys d) = same xs ys && sameClass c d
 sameClass (oneOr xs c) small = false
+sameClass (oneOr xs c) (ruled v) = false
 sameClass small (one ys) = false
 sameClass small (list d) = false
 sameClass small (oneOr ys d) = false
 sameClass small small = true
+sameClass small (ruled v) = false
+sameClass (ruled u) (one ys) = false
+sameClass (ruled u) (list d) = false
+sameClass (ruled u) (oneOr ys d) = false
+sameClass (ruled u) small = false
+sameClass (ruled u) (ruled v) = sameRule u v
 
 abbrev pub numberFrom : ℕ → List Class → Class → ℕ
 numberFrom n [] c = n

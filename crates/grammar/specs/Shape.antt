@@ -4,12 +4,17 @@ use Prim.Native.String.{String}
 use mathlib.Core.List.{List}
 
 infixr 30 _·_
+-- a TEXT that a request of 02 has a rule for
+pub data Rule : Type 0 where
+  checkSource : Rule  -- a CHECK's source (vii)
+
 -- what may stand in a place (01, section 2)
 pub data Class : Type 0 where
   one : List ℕ → Class  -- a record of one of these kinds
   list : Class → Class  -- a LIST, one such place an element
   oneOr : List ℕ → Class → Class  -- a record of one of these kinds, or a LIST of such places
   small : Class  -- a NUMBER from 0 to 255
+  ruled : Rule → Class  -- a TEXT with a rule, or NONE
 
 -- what is written, and which children are held, in the order in which they are written
 pub data Shape : Type 0 where

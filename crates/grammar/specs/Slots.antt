@@ -4,8 +4,8 @@ use mathlib.Core.List.{List, [], _∷_, _++_}
 use mathlib.Core.Bool.{Bool, _||_}
 use lib.Dec.{eqb}
 use Rattle.laws.specs.Among.{among}
-use Rattle.grammar.specs.Kind.{LIST, NUMBER}
-use Rattle.grammar.specs.Shape.{Class, one, list, oneOr, small, Shape, nothing, token, ident, word, said, line, when, is, slot, each, commas, row, lines, tuples, given, filled, replacing, decimal, brackets, quoted, rowid, source, later, _·_}
+use Rattle.grammar.specs.Kind.{NONE, LIST, TEXT, NUMBER}
+use Rattle.grammar.specs.Shape.{Class, one, list, oneOr, small, checkSource, ruled, Shape, nothing, token, ident, word, said, line, when, is, slot, each, commas, row, lines, tuples, given, filled, replacing, decimal, brackets, quoted, rowid, source, later, _·_}
 use Rattle.grammar.specs.Grammar.{run, text, number, maybe}
 
 -- the place of each child, in the order in which the children are held
@@ -31,7 +31,7 @@ slotsOf decimal = maybe number ∷ []
 slotsOf brackets = small ∷ []
 slotsOf quoted = text ∷ []
 slotsOf rowid = maybe text ∷ []
-slotsOf source = run ∷ maybe text ∷ []
+slotsOf source = run ∷ ruled checkSource ∷ []
 slotsOf (later a b) = slotsOf a ++ slotsOf b
 slotsOf (a · b) = slotsOf a ++ slotsOf b
 
@@ -68,6 +68,7 @@ allowed (one ks) k = among k ks
 allowed (list c) k = eqb k LIST
 allowed (oneOr ks c) k = among k ks || eqb k LIST
 allowed small k = eqb k NUMBER
+allowed (ruled u) k = eqb k NONE || eqb k TEXT
 
 -- the place of each element, where a LIST stands in a place
 unfoldable pub elements : Class → Class
@@ -75,3 +76,4 @@ elements (one ks) = one []
 elements (list c) = c
 elements (oneOr ks c) = c
 elements small = one []
+elements (ruled u) = one []

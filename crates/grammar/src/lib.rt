@@ -18,7 +18,7 @@ pub const SMALL: u8 = 4;
 pub const SLOTS: u16 = 0x100;
 
 // How many places there are, and the first number past all kinds.
-const PLACES: u8 = 49;
+const PLACES: u8 = 50;
 
 const KINDS_HELD: u16 = 121;
 
@@ -46,11 +46,11 @@ fn stands_held(kind: u16) -> u64
     ensures { λ r. ⌜ r ≡ standsOf kind ⌝ }
 {
     match kind {
-        0 => 0x304021c100,
+        0 => 0x200304021c100,
         1 => 0x2a8615080602,
         2 => 0x8,
         3 => 0x1d569ead5f9e6,
-        4 => 0x1000020000,
+        4 => 0x2001000020000,
         5 => 0x200010,
         6 => 0x0,
         7 => 0x0,
@@ -236,6 +236,7 @@ fn element_held(place: u8) -> u8
         46 => 0,
         47 => 0,
         48 => 0,
+        49 => 0,
         _ => 255,
     }
 }
@@ -500,7 +501,7 @@ fn places_held(kind: u16) -> u64
         100 => 0x92506,
         101 => 0x809,
         102 => 0x809,
-        103 => 0x2406,
+        103 => 0x3106,
         104 => 0x82609,
         105 => 0x90906,
         106 => 0xd0906,

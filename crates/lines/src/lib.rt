@@ -2,7 +2,7 @@
 ghost use mathlib.Core.Path.{_≡_};
 ghost use mathlib.Core.Bool.{false};
 ghost use mathlib.Core.List.{[], _∷_};
-ghost use Prim.Native.Nat.{_+_, _*_, _≤_, _<_};
+ghost use Prim.Native.Nat.{_+_, _*_, _^_, _≤_, _<_};
 ghost use lib.ListN.{length};
 ghost use Rattle.laws.specs.Little.{fromLittle};
 ghost use Rattle.io.specs.Counts.{Counts};
@@ -22,7 +22,7 @@ const HEX: usize = 2 * BYTES;
 
 // The number that four bytes hold, the lowest first.
 pub fn word(a: u8, b: u8, c: u8, d: u8) -> usize
-    ensures { λ r. ⌜ r ≡ fromLittle (a ∷ b ∷ c ∷ d ∷ []) ⌝ }
+    ensures { λ r. ⌜ (r ≡ fromLittle (a ∷ b ∷ c ∷ d ∷ [])) × (r < 2 ^ 32) ⌝ }
 {
     a as usize + 256 * (b as usize) + 65536 * (c as usize) + 16777216 * (d as usize)
 }

@@ -1,6 +1,7 @@
 // Prints the text of a tree that stands in two files (01, section 6): the text, or a refusal, or that they cannot be read.
 ghost use Rattle.io.specs.Counts.{Counts};
 use libc::STDOUT_FILENO;
+use mode::NO_OPTIONS;
 use render::Outcome;
 
 // One byte more than a tree or a text may have, so that one that is longer is seen to be.
@@ -59,7 +60,7 @@ fn print_refusal(o: Outcome) {
 // Prints the text of a tree and nothing more, or the refusal.
 fn print_text(tree: &[u8], text: &[u8]) {
     let mut out = [0u8; OUTPUT];
-    let outcome = render::render(tree, text, &mut out);
+    let outcome = render::render(mode::of(NO_OPTIONS), tree, text, &mut out);
     match outcome {
         Outcome::Done(n) => {
             io::write_all(STDOUT_FILENO, &out[..n]);

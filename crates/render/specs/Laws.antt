@@ -9,11 +9,12 @@ use lib.Dec.{eqb, ltb}
 use lib.ListN.{length, getD, take, drop}
 use lib.Seq.{sets, sets-eq, length-sets, take-length, take-append-seam}
 use borrow.Author.Tests.{eqb-true, eq-eqb, ne-eqb, lt-ltb, le-ltb, ltb-false}
+use Rattle.mode.specs.declared.Mode.{Mode}
 use Rattle.spelling.specs.Table.{bytes}
 use Rattle.stream.specs.Sink.{State, most}
 use Rattle.stream.specs.Laws.{count-fits}
 use Rattle.tree.specs.Check as tree
-use Rattle.tree.specs.Check.{Checks}
+use Rattle.tree.specs.Check.{ChecksIn, Checks}
 use Rattle.tree.specs.Whole as whole
 use Rattle.tree.specs.Bounds.{place-small, admitted-short, number-small as tree-number-small}
 use Rattle.tree.specs.declared.Answer.{Answer}
@@ -23,7 +24,7 @@ use Rattle.pen.specs.Pen.{source, emit}
 use Rattle.pen.specs.Emit.{fresh, text-counted, text-stored}
 use Rattle.render.specs.declared.Outcome.{Outcome}
 use Rattle.render.specs.declared.Outcome.the-variants.{Done, Refused, NoRoom}
-use Rattle.render.specs.Render.{textFrom, refuses, measured, rendered, outputAfter, Measures, Renders, numberOf, placeOf}
+use Rattle.render.specs.Render.{textFrom, refuses, measured, rendered, outputAfter, MeasuresIn, RendersIn, Renders, numberOf, placeOf}
 use Rattle.render.specs.Steps.{counted, Writes, Drafted, Drafts}
 
 -- ---- the tokens of a tree, written by a fresh sink, are its text
@@ -36,8 +37,8 @@ writes t x w out st pool room e =
     }
 
 -- ---- the ways through measure, by the number of the check's answer
-module _ {t x : List ℕ} {a : Answer} (c : Checks t x a) (m : ℕ) (is : m ≡ tree.numberOf a) where
-  pub refused : (m ≡ 0 → ⊥) → Measures t x (Refused a)
+module _ {mode : Mode} {t x : List ℕ} {a : Answer} (c : ChecksIn mode t x a) (m : ℕ) (is : m ≡ tree.numberOf a) where
+  pub refused : (m ≡ 0 → ⊥) → MeasuresIn mode t x (Refused a)
   unfolding measured refuses
   refused h = record { answer = a; checks = c; answers = rw (← is, ne-eqb m 0 h) }
 
@@ -48,7 +49,7 @@ module _ {t x : List ℕ} {a : Answer} (c : Checks t x a) (m : ℕ) (is : m ≡ 
       text-fits (source t x) (record { tree = s .0; bytes = inBytes; text = s .1 })
 
   -- so the count is its length
-  pub measured-all : m ≡ 0 → ((k : ℕ) → getD t k 0 < 256) → (n : ℕ) → n ≡ counted t x → Measures t x (Done n)
+  pub measured-all : m ≡ 0 → ((k : ℕ) → getD t k 0 < 256) → (n : ℕ) → n ≡ counted t x → MeasuresIn mode t x (Done n)
   unfolding measured refuses counted
   measured-all z inBytes n e =
       let l = length (textFrom t x) in
@@ -57,11 +58,11 @@ module _ {t x : List ℕ} {a : Answer} (c : Checks t x a) (m : ℕ) (is : m ≡ 
       record { answer = a; checks = c; answers = rw (← is, eq-eqb m 0 z, q) }
 
 -- ---- the draft, and the copy of it
-module _ {t x : List ℕ} where
-  pub draft-refused : {a : Answer} {d : List ℕ} → Measures t x (Refused a) → Drafts t x (Refused a) d
+module _ {mode : Mode} {t x : List ℕ} where
+  pub draft-refused : {a : Answer} {d : List ℕ} → MeasuresIn mode t x (Refused a) → Drafts mode t x (Refused a) d
   draft-refused m = record { measures = m; drafted = λ n e. let z : _≡_ {A = ℕ} 0 1 = cc in absurd (omega arith) }
 
-  pub draft-done : {n : ℕ} (d : List ℕ) {d′ : List ℕ} → Measures t x (Done n) → d′ ≡ sets d 0 (textFrom t x) → Drafts t x (Done n) d′
+  pub draft-done : {n : ℕ} (d : List ℕ) {d′ : List ℕ} → MeasuresIn mode t x (Done n) → d′ ≡ sets d 0 (textFrom t x) → Drafts mode t x (Done n) d′
   draft-done {n} d {d′} m e = record { measures = m; drafted = λ k q h. begins h }
     where
       begins : Drafted t x d′
@@ -77,17 +78,17 @@ copied t x out d out′ n l h i begins e =
     rw (e, sets-eq text out 0 (omega arith), zero-add, l, begins (omega arith), take-length text)
 
 -- ---- the ways through render, by what measure comes to
-module _ {t x : List ℕ} (out : List ℕ) where
+module _ {mode : Mode} {t x : List ℕ} (out : List ℕ) where
   -- a refusal stays one
-  pub kept : {o : Outcome} → ((n : ℕ) → o ≡ Done n → ⊥) → Measures t x o → Renders t x out o out
+  pub kept : {o : Outcome} → ((n : ℕ) → o ≡ Done n → ⊥) → MeasuresIn mode t x o → RendersIn mode t x out o out
   unfolding measured rendered outputAfter
   kept {o} other m = by (refuses (m .answer)) refl (m .answers)
     where
-      by : (b : Bool) → refuses (m .answer) ≡ b → o ≡ cond b (Refused (m .answer)) (Done (length (textFrom t x))) → Renders t x out o out
+      by : (b : Bool) → refuses (m .answer) ≡ b → o ≡ cond b (Refused (m .answer)) (Done (length (textFrom t x))) → RendersIn mode t x out o out
       by true q e = record { answer = m .answer; checks = m .checks; answers = rw (q, e); writes = rw e }
       by false q e = absurd (other (length (textFrom t x)) e)
 
-  module _ {n : ℕ} (m : Measures t x (Done n)) where
+  module _ {n : ℕ} (m : MeasuresIn mode t x (Done n)) where
     -- the check passed, and the number is the length
     admitted : (refuses (m .answer) ≡ false) × (n ≡ length (textFrom t x))
     unfolding measured
@@ -97,7 +98,7 @@ module _ {t x : List ℕ} (out : List ℕ) where
         by true e = let z : _≡_ {A = ℕ} 0 1 = cc in absurd (omega arith)
         by false e = (refl, cc)
 
-    pub no-room : length out < n → Renders t x out (NoRoom n) out
+    pub no-room : length out < n → RendersIn mode t x out (NoRoom n) out
     unfolding rendered outputAfter
     no-room h =
         let p = admitted in
@@ -107,7 +108,7 @@ module _ {t x : List ℕ} (out : List ℕ) where
     pub length-is : n ≡ length (textFrom t x)
     length-is = admitted .1
 
-    pub written : {out′ : List ℕ} → n ≤ length out → out′ ≡ sets out 0 (textFrom t x) → Renders t x out (Done n) out′
+    pub written : {out′ : List ℕ} → n ≤ length out → out′ ≡ sets out 0 (textFrom t x) → RendersIn mode t x out (Done n) out′
     unfolding rendered outputAfter
     written h w =
         let p = admitted in
@@ -120,26 +121,26 @@ module _ {t x : List ℕ} (out : List ℕ) where
         }
 
 -- ---- no two outcomes satisfy the contract
-pub measures-unique : (t x : List ℕ) (o p : Outcome) → Measures t x o → Measures t x p → o ≡ p
-measures-unique t x o p f g =
-    let q = whole.unique t x (f .answer) (g .answer) (f .checks) (g .checks) in
+pub measures-unique : (mode : Mode) (t x : List ℕ) (o p : Outcome) → MeasuresIn mode t x o → MeasuresIn mode t x p → o ≡ p
+measures-unique mode t x o p f g =
+    let q = whole.unique mode t x (f .answer) (g .answer) (f .checks) (g .checks) in
     f .answers ∙ ap (λ (a : Answer). measured a (textFrom t x)) q ∙ sym (g .answers)
 
-pub renders-unique : (t x out : List ℕ) (o p : Outcome) (l m : List ℕ) → Renders t x out o l → Renders t x out p m → (o ≡ p) × (l ≡ m)
-renders-unique t x out o p l m f g =
+pub renders-unique : (mode : Mode) (t x out : List ℕ) (o p : Outcome) (l m : List ℕ) → RendersIn mode t x out o l → RendersIn mode t x out p m → (o ≡ p) × (l ≡ m)
+renders-unique mode t x out o p l m f g =
     let text = textFrom t x in
-    let q = whole.unique t x (f .answer) (g .answer) (f .checks) (g .checks) in
+    let q = whole.unique mode t x (f .answer) (g .answer) (f .checks) (g .checks) in
     let s : o ≡ p = f .answers ∙ ap (λ (a : Answer). rendered a (length out) text) q ∙ sym (g .answers) in
     (s, f .writes ∙ ap (λ (u : Outcome). outputAfter u text out) s ∙ sym (g .writes))
 
 -- the counting pass and the writing pass agree: where there is room for what measure answers, render answers the same
-pub agree : (t x out out′ : List ℕ) (o p : Outcome) → ((n : ℕ) → o ≡ Done n → n ≤ length out) → Measures t x o → Renders t x out p out′ → p ≡ o
-agree t x out out′ (Done n) p room m r =
-    renders-unique t x out p (Done n) out′ _ r (written out m (room n refl) refl) .0
-agree t x out out′ (Refused a) p room m r =
-    renders-unique t x out p (Refused a) out′ out r (kept out (λ n e. let z : _≡_ {A = ℕ} 0 1 = cc in omega arith) m) .0
-agree t x out out′ (NoRoom k) p room m r =
-    renders-unique t x out p (NoRoom k) out′ out r (kept out (λ n e. let z : _≡_ {A = ℕ} 0 1 = cc in omega arith) m) .0
+pub agree : (mode : Mode) (t x out out′ : List ℕ) (o p : Outcome) → ((n : ℕ) → o ≡ Done n → n ≤ length out) → MeasuresIn mode t x o → RendersIn mode t x out p out′ → p ≡ o
+agree mode t x out out′ (Done n) p room m r =
+    renders-unique mode t x out p (Done n) out′ _ r (written out m (room n refl) refl) .0
+agree mode t x out out′ (Refused a) p room m r =
+    renders-unique mode t x out p (Refused a) out′ out r (kept out (λ n e. let z : _≡_ {A = ℕ} 0 1 = cc in omega arith) m) .0
+agree mode t x out out′ (NoRoom k) p room m r =
+    renders-unique mode t x out p (NoRoom k) out′ out r (kept out (λ n e. let z : _≡_ {A = ℕ} 0 1 = cc in omega arith) m) .0
 
 -- ---- a number is one of 01's, and a place is far below 2^32, so that the two can be told apart in one number
 pub number-small : (o : Outcome) → numberOf o < 16
@@ -150,7 +151,7 @@ number-small (NoRoom n) = omega arith
 abbrev Small : Outcome → Type 0
 Small o = placeOf o < 2 ^ 32
 
-module _ {t x : List ℕ} {a : Answer} (c : Checks t x a) (inBytes : (k : ℕ) → getD t k 0 < 256) where
+module _ {mode : Mode} {t x : List ℕ} {a : Answer} (c : ChecksIn mode t x a) (inBytes : (k : ℕ) → getD t k 0 < 256) where
   -- the check's refusal, or what an admitted text comes to
   refused-or : (o : Outcome) → (length (textFrom t x) < 2 ^ 32 → Small o) → Small (cond (refuses a) (Refused a) o)
   unfolding refuses
@@ -172,16 +173,16 @@ module _ {t x : List ℕ} {a : Answer} (c : Checks t x a) (inBytes : (k : ℕ) �
       by h true = h
       by h false = h
 
-pub measures-small : {t x : List ℕ} {o : Outcome} → ((k : ℕ) → getD t k 0 < 256) → Measures t x o → placeOf o < 2 ^ 32
+pub measures-small : {mode : Mode} {t x : List ℕ} {o : Outcome} → ((k : ℕ) → getD t k 0 < 256) → MeasuresIn mode t x o → placeOf o < 2 ^ 32
 measures-small b m = rw (m .answers) (measured-small (m .checks) b)
 
-pub renders-small : {t x out out′ : List ℕ} {o : Outcome} → ((k : ℕ) → getD t k 0 < 256) → Renders t x out o out′ → placeOf o < 2 ^ 32
-renders-small {t} {x} {out} b m = rw (m .answers) (rendered-small (m .checks) b (length out))
+pub renders-small : {mode : Mode} {t x out out′ : List ℕ} {o : Outcome} → ((k : ℕ) → getD t k 0 < 256) → RendersIn mode t x out o out′ → placeOf o < 2 ^ 32
+renders-small {mode} {t} {x} {out} b m = rw (m .answers) (rendered-small (m .checks) b (length out))
 
 -- ---- what was written fits the output
-pub done-fits : {t x out out′ : List ℕ} {n : ℕ} → Renders t x out (Done n) out′ → n ≤ length out
+pub done-fits : {mode : Mode} {t x out out′ : List ℕ} {n : ℕ} → RendersIn mode t x out (Done n) out′ → n ≤ length out
 unfolding rendered
-done-fits {t} {x} {out} {out′} {n} r = by (refuses (r .answer)) (ltb (length out) (length (textFrom t x))) refl (r .answers)
+done-fits {mode} {t} {x} {out} {out′} {n} r = by (refuses (r .answer)) (ltb (length out) (length (textFrom t x))) refl (r .answers)
   where
     by : (a b : Bool) → ltb (length out) (length (textFrom t x)) ≡ b
         → Done n ≡ cond a (Refused (r .answer)) (cond b (NoRoom (length (textFrom t x))) (Done (length (textFrom t x)))) → n ≤ length out

@@ -1,3 +1,4 @@
 pub mod Render
 pub mod Steps
 pub mod Laws
+pub mod Modes

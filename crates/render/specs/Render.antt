@@ -1,4 +1,4 @@
--- 01, section 3: "measure gives the length, render writes", what each answers and the bytes that render leaves.
+-- 01, section 3: "measure gives the length, render writes", what each answers and the bytes that render leaves; in a mode of 02, or as 01 has it.
 use Prim.Native.Nat.{ℕ}
 use mathlib.Core.Path.{_≡_}
 use mathlib.Core.List.{List, [], _∷_, _++_}
@@ -6,8 +6,10 @@ use mathlib.Core.Bool.{Bool, not}
 use lib.Dec.{eqb, ltb}
 use lib.ListN.{length, drop}
 use Rattle.laws.specs.First.{first}
+use Rattle.mode.specs.Options.{plain}
+use Rattle.mode.specs.declared.Mode.{Mode}
 use Rattle.tree.specs.Check as tree
-use Rattle.tree.specs.Check.{Checks}
+use Rattle.tree.specs.Check.{ChecksIn}
 use Rattle.tree.specs.declared.Answer.{Answer}
 use Rattle.tokens.specs.Tokens.{textOf}
 use Rattle.pen.specs.Pen.{source}
@@ -36,17 +38,24 @@ outputAfter (Refused a) text out = out
 outputAfter (NoRoom n) text out = out
 
 -- what measure does with a tree t and a text x
-pub record Measures (t x : List ℕ) (outcome : Outcome) : Type 0 where
+pub record MeasuresIn (m : Mode) (t x : List ℕ) (outcome : Outcome) : Type 0 where
   pub answer : Answer
-  pub checks : Checks t x answer
+  pub checks : ChecksIn m t x answer
   pub answers : outcome ≡ measured answer (textFrom t x)
 
 -- what render does with them and an output
-pub record Renders (t x out : List ℕ) (outcome : Outcome) (out′ : List ℕ) : Type 0 where
+pub record RendersIn (m : Mode) (t x out : List ℕ) (outcome : Outcome) (out′ : List ℕ) : Type 0 where
   pub answer : Answer
-  pub checks : Checks t x answer
+  pub checks : ChecksIn m t x answer
   pub answers : outcome ≡ rendered answer (length out) (textFrom t x)
   pub writes : out′ ≡ outputAfter outcome (textFrom t x) out
+
+-- 01 as it is: the switch is off
+abbrev pub Measures : List ℕ → List ℕ → Outcome → Type 0
+Measures = MeasuresIn plain
+
+abbrev pub Renders : List ℕ → List ℕ → List ℕ → Outcome → List ℕ → Type 0
+Renders = RendersIn plain
 
 -- the number and the place of each outcome
 abbrev pub numberOf : Outcome → ℕ

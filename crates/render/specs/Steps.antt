@@ -4,10 +4,11 @@ use mathlib.Core.Path.{_≡_}
 use mathlib.Core.List.{List}
 use lib.ListN.{length, take}
 use lib.Seq.{sets}
+use Rattle.mode.specs.declared.Mode.{Mode}
 use Rattle.stream.specs.Sink.{count}
 use Rattle.render.specs.declared.Outcome.{Outcome}
 use Rattle.render.specs.declared.Outcome.the-variants.{Done}
-use Rattle.render.specs.Render.{textFrom, Measures}
+use Rattle.render.specs.Render.{textFrom, MeasuresIn}
 
 -- the count that the sink comes to
 unfoldable pub counted : List ℕ → List ℕ → ℕ
@@ -23,6 +24,6 @@ abbrev pub Drafted : List ℕ → List ℕ → List ℕ → Type 0
 Drafted t x d = length (textFrom t x) ≤ length d → take (length (textFrom t x)) d ≡ textFrom t x
 
 -- what measure answers, and the draft of a text that was measured
-pub record Drafts (t x : List ℕ) (outcome : Outcome) (d : List ℕ) : Type 0 where
-  pub measures : Measures t x outcome
+pub record Drafts (m : Mode) (t x : List ℕ) (outcome : Outcome) (d : List ℕ) : Type 0 where
+  pub measures : MeasuresIn m t x outcome
   pub drafted : (n : ℕ) → outcome ≡ Done n → Drafted t x d

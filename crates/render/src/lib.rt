@@ -6,8 +6,9 @@ ghost use Prim.Native.Nat.{_≤_};
 ghost use lib.ListN.{length as length'};
 ghost use lib.Seq.{sets};
 ghost use Rattle.spelling.specs.Table.{bytes};
-ghost use Rattle.render.specs.Render.{textFrom, Measures, Renders, numberOf, placeOf};
+ghost use Rattle.render.specs.Render.{textFrom, MeasuresIn, RendersIn, numberOf, placeOf};
 ghost use Rattle.render.specs.Steps.{Writes, Drafted, Drafts};
+use mode::Mode;
 use stream::Sink;
 use tree::Answer;
 
@@ -63,11 +64,11 @@ fn write(out: &mut [u8], pool: &[u8], tree: &[u8], text: &[u8]) -> usize
 
 // The length of the text of a tree, or the check's refusal, with the pool of spellings lent. The text is written to a
 // draft, as much of it as there is room for.
-fn check_and_measure(draft: &mut [u8], pool: &[u8], tree: &[u8], text: &[u8]) -> Outcome
+fn check_and_measure(draft: &mut [u8], pool: &[u8], tree: &[u8], text: &[u8], mode: Mode) -> Outcome
     requires { ⌜ now pool ≡ bytes ⌝ }
-    ensures { λ r. ⌜ Drafts (now (tree .entry)) (now (text .entry)) r (now (draft .exit)) ⌝ }
+    ensures { λ r. ⌜ Drafts mode (now (tree .entry)) (now (text .entry)) r (now (draft .exit)) ⌝ }
 {
-    let answer = tree::check(tree, text);
+    let answer = rules::check(tree, text, mode);
     if tree::number(answer) != 0 {
         return Outcome::Refused(answer);
     }
@@ -75,12 +76,12 @@ fn check_and_measure(draft: &mut [u8], pool: &[u8], tree: &[u8], text: &[u8]) ->
 }
 
 // The length of the text of a tree, or the check's refusal: there is no room for a draft.
-pub fn measure(tree: &[u8], text: &[u8]) -> Outcome
-    ensures { λ r. ⌜ Measures (now (tree .entry)) (now (text .entry)) r ⌝ }
+pub fn measure(mode: Mode, tree: &[u8], text: &[u8]) -> Outcome
+    ensures { λ r. ⌜ MeasuresIn mode (now (tree .entry)) (now (text .entry)) r ⌝ }
 {
     let pool = spelling::pool();
     let mut nothing = [0u8; 0];
-    check_and_measure(&mut nothing, &pool, tree, text)
+    check_and_measure(&mut nothing, &pool, tree, text, mode)
 }
 
 // The text of a tree, which has so many bytes, in the output: copied from its draft, if that has room for all of it.
@@ -97,12 +98,12 @@ fn fair_copy(out: &mut [u8], draft: &[u8], pool: &[u8], tree: &[u8], text: &[u8]
 
 // The text of a tree written to the output, or a refusal, which writes nothing. Most texts are short, and their draft
 // is copied; a longer one is written twice, the first time for its length.
-pub fn render(tree: &[u8], text: &[u8], out: &mut [u8]) -> Outcome
-    ensures { λ r. ⌜ Renders (now (tree .entry)) (now (text .entry)) (now (out .entry)) r (now (out .exit)) ⌝ }
+pub fn render(mode: Mode, tree: &[u8], text: &[u8], out: &mut [u8]) -> Outcome
+    ensures { λ r. ⌜ RendersIn mode (now (tree .entry)) (now (text .entry)) (now (out .entry)) r (now (out .exit)) ⌝ }
 {
     let pool = spelling::pool();
     let mut draft = [0u8; DRAFT];
-    let measured = check_and_measure(&mut draft, &pool, tree, text);
+    let measured = check_and_measure(&mut draft, &pool, tree, text, mode);
     let Outcome::Done(length) = measured else {
         return measured;
     };

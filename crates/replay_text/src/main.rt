@@ -4,6 +4,7 @@
 // A case is the length of its tree and the length of its text, each of four bytes, little-endian, the tree's bytes, and
 // the text's bytes.
 use libc::STDIN_FILENO;
+use mode::NO_OPTIONS;
 use render::Outcome;
 
 // The bytes before a tree: the two lengths.
@@ -40,8 +41,8 @@ fn print_refusal(o: Outcome) -> bool {
 // Measures and renders a tree and its text, prints the line, and answers whether it was written.
 fn print_case(tree: &[u8], text: &[u8]) -> bool {
     let mut out = [0u8; OUTPUT];
-    let measured = render::measure(tree, text);
-    let rendered = render::render(tree, text, &mut out);
+    let measured = render::measure(mode::of(NO_OPTIONS), tree, text);
+    let rendered = render::render(mode::of(NO_OPTIONS), tree, text, &mut out);
     if !agree(measured, rendered) {
         return lines::print(b"differ\n");
     }

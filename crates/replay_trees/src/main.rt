@@ -1,12 +1,12 @@
-// Replays trees from standard input through the check, and prints a line for each: the answer's number and its place.
+// Replays trees from standard input through the check, each with its options, and prints a line for each: the answer's number and its place.
 //
-// A case is the length of its tree and the length of its text, each of four bytes, little-endian, the tree's bytes, and
+// A case is its options, the length of its tree and the length of its text, each of four bytes, little-endian, the tree's bytes, and
 // the text's bytes.
 use libc::STDIN_FILENO;
 use tree::Answer;
 
-// The bytes before a tree: the two lengths.
-const HEAD: usize = 8;
+// The bytes before a tree: the options and the two lengths.
+const HEAD: usize = 12;
 // The most bytes of a tree and of a text, more than the check admits.
 const ROOM: usize = 69632;
 
@@ -15,12 +15,12 @@ fn print_answer(answer: Answer) -> bool {
     lines::print_numbers(tree::number(answer), tree::place(answer) as u64, b'\n')
 }
 
-// Reads a tree and a text into all of their parts, checks them and prints the line, and answers whether to go on.
-fn replay_parts(tree: &mut [u8], text: &mut [u8]) -> bool {
+// Reads a tree and a text into all of their parts, checks them with their options and prints the line, and answers whether to go on.
+fn replay_parts(options: u32, tree: &mut [u8], text: &mut [u8]) -> bool {
     if !lines::fill(tree) || !lines::fill(text) {
         return lines::stop(b"cut off\n");
     }
-    print_answer(tree::check(tree, text))
+    print_answer(rules::check(tree, text, mode::of(options)))
 }
 
 // Replays a case by way of two buffers, and answers whether to go on: not at the end of the input.
@@ -33,12 +33,13 @@ fn replay_case(trees: &mut [u8], texts: &mut [u8]) -> bool {
     if got < HEAD {
         return lines::stop(b"cut off\n");
     }
-    let tree = lines::word(head[0], head[1], head[2], head[3]);
-    let text = lines::word(head[4], head[5], head[6], head[7]);
+    let options = lines::word(head[0], head[1], head[2], head[3]);
+    let tree = lines::word(head[4], head[5], head[6], head[7]);
+    let text = lines::word(head[8], head[9], head[10], head[11]);
     if tree > trees.len() || text > texts.len() {
         return lines::stop(b"too long for this program\n");
     }
-    replay_parts(&mut trees[..tree], &mut texts[..text])
+    replay_parts(options as u32, &mut trees[..tree], &mut texts[..text])
 }
 
 // Replays case after case. The turns are counted down, from a number that no input uses up: nothing says that it ends.

@@ -3,19 +3,20 @@ use Prim.Native.Nat.{ℕ, zero, suc, _+_, _≤_, _<_}
 use native.Mathlib.Omega.{arith}
 use mathlib.Core.Path.{_≡_, refl, ap, _∙_, sym}
 use mathlib.Core.List.{List, [], _∷_, _++_, map}
-use mathlib.Core.Bool.{Bool, true, false, not, cond, _||_, false≢true}
+use mathlib.Core.Bool.{Bool, true, false, not, cond, _&&_, _||_, false≢true}
 use lib.Dec.{eqb, ltb}
 use lib.ListN.{length}
 use borrow.Author.Tests.{ltb-false}
+use Rattle.mode.specs.declared.Mode.{Mode}
 use Rattle.utf8.specs.Rfc3629 as utf8
 use Rattle.utf8.specs.Rfc3629.{Encoded}
 use Rattle.utf8.specs.Laws as utf8laws
 use Rattle.utf8.specs.declared.Encoding.{Encoding}
 use Rattle.record.specs.Record.{recordAt, count, markOk}
 use Rattle.grammar.specs.Grammar.{root}
-use Rattle.tree.specs.Check.{Place, place, holds, fits, inside, deepest, faults, scan, longest, malformed, answerTo, Checks, numberOf, placeOf}
+use Rattle.tree.specs.Check.{Place, place, holds, fits, inside, swallows, deepest, faultsIn, scanIn, longest, malformed, answerIn, ChecksIn, numberOf, placeOf}
 use Rattle.tree.specs.declared.Answer.{Answer}
-use Rattle.tree.specs.declared.Answer.the-variants.{Admitted, Malformed, TooLong, Broken, Mark, Misfit, Outside, Deep, Ends}
+use Rattle.tree.specs.declared.Answer.the-variants.{Admitted, Malformed, TooLong, Broken, Mark, Misfit, Outside, Unclosed, Deep, Ends}
 
 -- a number of 01's table
 pub number-small : (a : Answer) → numberOf a < 16
@@ -26,6 +27,7 @@ number-small (Broken e) = utf8laws.number-small e
 number-small (Mark i) = omega arith
 number-small (Misfit i) = omega arith
 number-small (Outside i) = omega arith
+number-small (Unclosed i) = omega arith
 number-small (Deep i) = omega arith
 number-small (Ends i) = omega arith
 
@@ -37,20 +39,21 @@ either : (n : ℕ) (b : Bool) (a o : Answer) → Up n a → Up n o → Up n (con
 either n true a o p q = p
 either n false a o p q = q
 
-scan-place : (t x : List ℕ) (n i : ℕ) (ps : List Place) → Up (i + n) (scan t x n i ps)
-unfolding scan faults
-scan-place t x zero i [] = omega arith
-scan-place t x zero i (p ∷ ps) = omega arith
-scan-place t x (suc n) i [] = omega arith
-scan-place t x (suc n) i (p ∷ ps) =
+scan-place : (m : Mode) (t x : List ℕ) (n i : ℕ) (ps : List Place) → Up (i + n) (scanIn m t x n i ps)
+unfolding scanIn faultsIn
+scan-place m t x zero i [] = omega arith
+scan-place m t x zero i (p ∷ ps) = omega arith
+scan-place m t x (suc n) i [] = omega arith
+scan-place m t x (suc n) i (p ∷ ps) =
     let r = recordAt t i in
     let rest = map (place (p .depth + 1)) (holds (p .class) r) ++ ps in
-    let q = scan-place t x n (i + 1) rest in
-    let after : Up (i + suc n) (scan t x n (i + 1) rest) = omega arith in
+    let q = scan-place m t x n (i + 1) rest in
+    let after : Up (i + suc n) (scanIn m t x n (i + 1) rest) = omega arith in
     either (i + suc n) (not (markOk r)) (Mark i) _ (omega arith)
     (either (i + suc n) (not (fits (p .class) r)) (Misfit i) _ (omega arith)
     (either (i + suc n) (not (inside x r)) (Outside i) _ (omega arith)
-    (either (i + suc n) (ltb deepest (p .depth)) (Deep i) _ (omega arith) after)))
+    (either (i + suc n) (m .strict && swallows x (p .class) r) (Unclosed i) _ (omega arith)
+    (either (i + suc n) (ltb deepest (p .depth)) (Deep i) _ (omega arith) after))))
 
 -- ---- 1 and 2 come first, so what follows them is not over-long
 neither : (a b : Bool) → (a || b) ≡ false → (a ≡ false) × (b ≡ false)
@@ -62,34 +65,34 @@ unfolding malformed
 tree-short t h =
     ltb-false longest (length t) (neither (ltb longest (length t)) _ (neither (eqb (length t) 0) _ h .1) .0)
 
-module _ (e : Encoding) (t x : List ℕ) where
-  answer-place : Encoded x e → placeOf (answerTo e t x) ≤ longest
-  unfolding answerTo
+module _ (m : Mode) (e : Encoding) (t x : List ℕ) where
+  answer-place : Encoded x e → placeOf (answerIn m e t x) ≤ longest
+  unfolding answerIn
   answer-place h = by (malformed t) (ltb longest (length x)) refl refl
     where
-      by : (m l : Bool) → malformed t ≡ m → ltb longest (length x) ≡ l
-          → Up longest (cond m Malformed (cond l TooLong (cond (not (eqb (utf8.number e) 0)) (Broken e) (scan t x (count t) 0 (place 1 root ∷ [])))))
+      by : (f l : Bool) → malformed t ≡ f → ltb longest (length x) ≡ l
+          → Up longest (cond f Malformed (cond l TooLong (cond (not (eqb (utf8.number e) 0)) (Broken e) (scanIn m t x (count t) 0 (place 1 root ∷ [])))))
       by true l p q = omega arith
       by false true p q = omega arith
       by false false p q =
           let s : length x ≤ longest = ltb-false longest (length x) q in
           either longest (not (eqb (utf8.number e) 0)) (Broken e) _ (omega (arith, utf8laws.place-within x e h))
-          (omega (arith, scan-place t x (count t) 0 (place 1 root ∷ []), tree-short t p))
+          (omega (arith, scan-place m t x (count t) 0 (place 1 root ∷ []), tree-short t p))
 
-  answer-short : numberOf (answerTo e t x) ≡ 0 → (length t ≤ longest) × (length x ≤ longest)
-  unfolding answerTo
+  answer-short : numberOf (answerIn m e t x) ≡ 0 → (length t ≤ longest) × (length x ≤ longest)
+  unfolding answerIn
   answer-short = by (malformed t) (ltb longest (length x)) refl refl
     where
-      by : (m l : Bool) → malformed t ≡ m → ltb longest (length x) ≡ l
-          → numberOf (cond m Malformed (cond l TooLong (cond (not (eqb (utf8.number e) 0)) (Broken e) (scan t x (count t) 0 (place 1 root ∷ []))))) ≡ 0
+      by : (f l : Bool) → malformed t ≡ f → ltb longest (length x) ≡ l
+          → numberOf (cond f Malformed (cond l TooLong (cond (not (eqb (utf8.number e) 0)) (Broken e) (scanIn m t x (count t) 0 (place 1 root ∷ []))))) ≡ 0
           → (length t ≤ longest) × (length x ≤ longest)
       by true l p q z = absurd (omega arith)
       by false true p q z = absurd (omega arith)
       by false false p q z = (tree-short t p, ltb-false longest (length x) q)
 
-module _ {t x : List ℕ} {a : Answer} (c : Checks t x a) where
+module _ {m : Mode} {t x : List ℕ} {a : Answer} (c : ChecksIn m t x a) where
   pub place-small : placeOf a ≤ longest
-  place-small = rw (c .answers) (answer-place (c .encoding) t x (c .encoded))
+  place-small = rw (c .answers) (answer-place m (c .encoding) t x (c .encoded))
 
   pub admitted-short : numberOf a ≡ 0 → (length t ≤ longest) × (length x ≤ longest)
-  admitted-short z = answer-short (c .encoding) t x (sym (ap numberOf (c .answers)) ∙ z)
+  admitted-short z = answer-short m (c .encoding) t x (sym (ap numberOf (c .answers)) ∙ z)

@@ -16,7 +16,7 @@ use Rattle.spelling.specs.Laws.{early-known}
 use Rattle.record.specs.Record.{markOk}
 use Rattle.record.specs.declared.Record.{Record}
 use Rattle.grammar.specs.Kind.{LIST, TOKEN, RUN, TEXT, NUMBER}
-use Rattle.grammar.specs.Shape.{Class, one, list, oneOr, small}
+use Rattle.grammar.specs.Shape.{Class, one, list, oneOr, small, ruled}
 use Rattle.grammar.specs.Grammar.{shape}
 use Rattle.grammar.specs.Slots.{slotsOf, flagsBelow, allowed, elements}
 use Rattle.grammar.specs.Classes.{classes, classesHeld, classAt, tokenAt, token-is, smallAt}
@@ -32,6 +32,7 @@ narrow (one ks) = false
 narrow (list c) = false
 narrow (oneOr ks c) = false
 narrow small = true
+narrow (ruled u) = false
 
 narrow-tested : below (λ n. Bool·beq (narrow (classAt n)) (eqb n smallAt)) classesHeld ≡ true
 unfolding narrow classAt classes
@@ -43,6 +44,7 @@ wide (one ks) r h = refl
 wide (list c) r h = refl
 wide (oneOr ks c) r h = refl
 wide small r h = absurd (false≢true (sym h))
+wide (ruled u) r h = refl
 
 beq-false : (a b : Bool) → Bool·beq a b ≡ true → b ≡ false → a ≡ false
 beq-false true true h e = e
@@ -229,6 +231,7 @@ zeros-range small r s l = rw (s, l)
 zeros-range (one ks) r s l = refl
 zeros-range (list c) r s l = refl
 zeros-range (oneOr ks c) r s l = refl
+zeros-range (ruled u) r s l = refl
 
 module _ (x : List ℕ) (c : Class) (r : Record) where
   pub all-zero : boundary x 0 ≡ true → zeros r ≡ true → 0 ≡ usedFault x c r

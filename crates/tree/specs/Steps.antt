@@ -52,7 +52,7 @@ module _ (n : ℕ) (r : Record) (h : n < classesHeld) (fe : fits (classAt n) r �
   unfolding holds
   slots-hold e = rw (ne-eqb (r .kind) LIST e, ne-eqb (r .kind) RUN no-run)
 
-  slots-counted : (r .kind ≡ LIST → ⊥) → r .kids ≡ length (slotsOf (shape (r .kind)))
+  pub slots-counted : (r .kind ≡ LIST → ⊥) → r .kids ≡ length (slotsOf (shape (r .kind)))
   slots-counted e = rw (slots-hold e) at (kids-are (classAt n) r fe)
 
   pub row-holds : holds (classAt n) r ≡ along (rowOf n (r .kind)) (r .kids)

@@ -15,7 +15,7 @@ use Rattle.grammar.specs.Shape.{Class}
 use Rattle.grammar.specs.Slots.{allowed}
 use Rattle.tree.specs.declared.Answer.{Answer}
 use Rattle.tree.specs.declared.Answer.the-variants.{Mark, Misfit, Outside, Deep, Ends}
-use Rattle.tree.specs.Check.{Place, place, holds, flagsFit, fieldsFit, rangeFits, fits, inside, deepest, faults, scan}
+use Rattle.tree.specs.Check.{Place, place, holds, flagsFit, fieldsFit, rangeFits, fits, inside, deepest, faultsIn, faults, scanIn, scan}
 
 -- a walk comes to a number: the index behind it or, from here on, a refusal, its number times this and its index
 abbrev pub refused : ℕ
@@ -137,7 +137,7 @@ module _ (x : List ℕ) (r : Record) (left : ℕ) (c : Class) (f : ℕ) (found :
   found-is = found ∙ rw (depthless left)
 
   first-fault : (i : ℕ) (other : Answer) → (f ≡ 0 → ⊥) → first (faults x r i (place (65 - left) c)) other ≡ refusalAt f i
-  unfolding faults
+  unfolding faultsIn
   first-fault i other h =
       some (not (markOk r)) (not (fits c r)) (not (inside x r)) (ltb deepest (65 - left)) i other (λ e. h (found-is ∙ e))
       ∙ ap (λ (n : ℕ). refusalAt n i) (sym found-is)
@@ -153,13 +153,13 @@ module _ (x : List ℕ) (r : Record) (left : ℕ) (c : Class) (f : ℕ) (found :
     fine-left = omega (arith, ltb-false deepest (65 - left) (passed .1 .0))
 
     no-fault : (i : ℕ) (other : Answer) → first (faults x r i (place (65 - left) c)) other ≡ other
-    unfolding faults
+    unfolding faultsIn
     no-fault i other = passed .1 .1 i other
 
 -- ---- the ways through a walk of one record
 module _ (t x : List ℕ) (i : ℕ) (p : Place) where
   nothing-there : count t ≤ i → i < refused → (ps : List Place) → scan t x (count t - i) i (p ∷ ps) ≡ answerOf (refuse 7 i)
-  unfolding scan
+  unfolding scanIn
   nothing-there h l ps = let e : count t - i ≡ 0 = omega arith in sym (refused-answer 7 i l ∙ rw e)
 
   pub past : count t ≤ i → i < refused → Walks t x i (p ∷ []) (refuse 7 i)
@@ -173,7 +173,7 @@ module _ (t x : List ℕ) (i : ℕ) (p : Place) where
   one-step : i < count t → (rest : List Place)
       → scan t x (count t - i) i (p ∷ rest)
       ≡ first (faults x (recordAt t i) i p) (scan t x (count t - (i + 1)) (i + 1) (map (place (p .depth + 1)) (holds (p .class) (recordAt t i)) ++ rest))
-  unfolding scan
+  unfolding scanIn
   one-step there rest = let e : count t - i ≡ suc (count t - (i + 1)) = omega arith in rw e
 
 module _ (t x : List ℕ) (i left : ℕ) (c : Class) (r : Record) where

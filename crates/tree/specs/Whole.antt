@@ -7,6 +7,7 @@ use mathlib.Core.Bool.{Bool, true, false}
 use lib.Dec.{ltb}
 use lib.ListN.{length}
 use borrow.Author.Tests.{eq-eqb, ne-eqb, lt-ltb, le-ltb, ltb-true, ltb-false}
+use Rattle.mode.specs.declared.Mode.{Mode}
 use Rattle.utf8.specs.Rfc3629 as utf8
 use Rattle.utf8.specs.Rfc3629.{Encoded, none}
 use Rattle.utf8.specs.Laws.{encoded-unique, number-text, boundary-text}
@@ -15,7 +16,7 @@ use Rattle.utf8.specs.declared.Encoding.{Encoding}
 use Rattle.record.specs.Record.{count}
 use Rattle.grammar.specs.Grammar.{root}
 use Rattle.grammar.specs.Classes.{classAt, rootAt, root-is}
-use Rattle.tree.specs.Check.{place, scan, malformed, longest, answerTo, Checks}
+use Rattle.tree.specs.Check.{place, scanIn, scan, malformed, longest, answerIn, answerTo, ChecksIn, Checks}
 use Rattle.tree.specs.declared.Answer.{Answer}
 use Rattle.tree.specs.declared.Answer.the-variants.{Admitted, Malformed, TooLong, Broken}
 use Rattle.tree.specs.Bounds.{tree-short}
@@ -23,7 +24,7 @@ use Rattle.tree.specs.Walk.{refused, refuse, answerOf, Walks, resumed, r
 
 -- where records are left over, the index of the first stands for the answer
 left-over : (t x : List ℕ) (w : ℕ) → w < refused → w ≤ count t → (w ≡ count t → ⊥) → scan t x (count t - w) w [] ≡ answerOf w
-unfolding scan
+unfolding scanIn
 left-over t x w h l q =
     let z : count t - w ≡ suc (count t - suc w) = omega arith in
     let e : refuse 0 w ≡ w = omega arith in
@@ -37,7 +38,7 @@ module _ (t x : List ℕ) (w : ℕ) (short : count t < refused) (walked : Walks 
       rw (root-is, z) at (walked .is [])
 
   pub all-filled : w ≡ count t → Admitted ≡ scan t x (count t) 0 (place 1 root ∷ [])
-  unfolding scan
+  unfolding scanIn
   all-filled q =
       let z : count t - w ≡ 0 = omega arith in
       sym (scanned ∙ resumed-next t x w [] (omega arith) ∙ rw z)
@@ -62,26 +63,26 @@ module _ (t x : List ℕ) where
   any a is = let d = decided x in record { encoding = d .0; encoded = d .1; answers = is (d .0) }
 
   pub is-malformed : (b : Bool) → b ≡ malformed t → b ≡ true → Checks t x Malformed
-  unfolding answerTo
+  unfolding answerIn
   is-malformed b q h = any Malformed (λ e. rw (← q, h))
 
   module _ (b : Bool) (q : b ≡ malformed t) (h : b ≡ false) where
     pub too-long : longest < length x → Checks t x TooLong
-    unfolding answerTo
+    unfolding answerIn
     too-long l = any TooLong (λ e. rw (← q, h, lt-ltb longest (length x) l))
 
     module _ (l : length x ≤ longest) (e : Encoding) (m : ℕ) (en : Encoded x e) (is : m ≡ utf8.number e) where
       pub ill : (m ≡ 0 → ⊥) → Checks t x (Broken e)
-      unfolding answerTo
+      unfolding answerIn
       ill z = record { encoding = e; encoded = en; answers = rw (← q, h, le-ltb longest (length x) l, ← is, ne-eqb m 0 z) }
 
       pub looked-at : (a : Answer) → m ≡ 0 → a ≡ scan t x (count t) 0 (place 1 root ∷ []) → Checks t x a
-      unfolding answerTo
+      unfolding answerIn
       looked-at a z s = record { encoding = e; encoded = en; answers = rw (← q, h, le-ltb longest (length x) l, ← is, eq-eqb m 0 z) s }
 
 -- no two answers satisfy the contract
-pub unique : (t x : List ℕ) (a b : Answer) → Checks t x a → Checks t x b → a ≡ b
-unique t x a b p q =
+pub unique : (m : Mode) (t x : List ℕ) (a b : Answer) → ChecksIn m t x a → ChecksIn m t x b → a ≡ b
+unique m t x a b p q =
     p .answers
-    ∙ ap (λ (e : Encoding). answerTo e t x) (encoded-unique x (p .encoding) (q .encoding) (p .encoded) (q .encoded))
+    ∙ ap (λ (e : Encoding). answerIn m e t x) (encoded-unique x (p .encoding) (q .encoding) (p .encoded) (q .encoded))
     ∙ sym (q .answers)

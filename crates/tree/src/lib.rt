@@ -40,7 +40,7 @@ const PRESENT: u16 = 0x8000;
 // One more than the largest small NUMBER.
 const SMALL_END: u32 = 256;
 
-// 01's numbers of the refusals.
+// 01's numbers of the refusals, and 02's.
 const MALFORMED: u64 = 1;
 
 const TOO_LONG: u64 = 2;
@@ -50,6 +50,8 @@ const MARK: u64 = 3;
 const MISFIT: u64 = 4;
 
 const OUTSIDE: u64 = 5;
+
+const UNCLOSED: u64 = 9;
 
 const DEEP: u64 = 6;
 
@@ -66,10 +68,13 @@ pub enum Answer {
     TooLong,
     // The text is not UTF-8.
     Broken(Encoding),
-    // At a record: a wrong mark; what may not stand there; a text part outside or in a character; too deep.
+    // At a record: a wrong mark; what may not stand there; a text part outside or in a character.
     Mark(usize),
     Misfit(usize),
     Outside(usize),
+    // The same in a mode: a CHECK's source that ends inside a comment or a quote (02, vii).
+    Unclosed(usize),
+    // Again at a record: too deep.
     Deep(usize),
     // A needed record is past the end, or records are left over.
     Ends(usize),
@@ -309,6 +314,7 @@ pub fn number(a: Answer) -> u64
         Answer::Mark(_) => MARK,
         Answer::Misfit(_) => MISFIT,
         Answer::Outside(_) => OUTSIDE,
+        Answer::Unclosed(_) => UNCLOSED,
         Answer::Deep(_) => DEEP,
         Answer::Ends(_) => ENDS,
     }
@@ -326,6 +332,7 @@ pub fn place(a: Answer) -> usize
         Answer::Mark(i) => i,
         Answer::Misfit(i) => i,
         Answer::Outside(i) => i,
+        Answer::Unclosed(i) => i,
         Answer::Deep(i) => i,
         Answer::Ends(i) => i,
     }

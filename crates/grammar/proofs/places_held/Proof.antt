@@ -6,7 +6,7 @@ use Rattle.laws.specs.Apart.{apart}
 use Rattle.grammar.specs.Grammar.{shape}
 use Rattle.grammar.specs.Slots.{slotsOf}
 use Rattle.grammar.specs.Classes.{classes}
-use Rattle.grammar.specs.Packed.{kindsHeld, placesOf, numbered, sameClass}
+use Rattle.grammar.specs.Packed.{kindsHeld, placesOf, numbered, sameClass, sameRule}
 use Rattle.grammar.proofs.places_held.Statement.{statement}
 use Rattle.grammar.proofs.places_held.Tie as tie
 
@@ -17,7 +17,7 @@ rest : tie.Need-returns-122
 rest c = absurd (omega (arith, apart kindsHeld (c .before .args .kind) (c .match .rest)))
 
 pub places-held-spec : {M : Type 1} → statement M
-unfolding placesOf numbered sameClass shape slotsOf classes
+unfolding placesOf numbered sameClass sameRule shape slotsOf classes
 places-held-spec =
     tie.close
     (tie.spec

@@ -12,5 +12,5 @@ replay-parts-spec =
     tie.close
     (tie.spec
     (λ c κs. search needs) (λ c κs. search needs) (λ c. search needs) (λ c κs. search needs) (λ c. search needs)
-    same-length-2 (λ c. search needs) (λ c κs. search needs) (λ c κs. search needs) (λ c. search needs)
+    same-length-2 (λ c. search needs) (λ c κs. search needs) (λ c κs. search needs) (λ c κs. search needs) (λ c. search needs)
     (λ c. search needs) (λ c. search needs))

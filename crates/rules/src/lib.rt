@@ -1,0 +1,155 @@
+// The check in a mode (02, vii): 01's check first, and then the rules for single TEXTs, at the records before its refusal.
+//
+// A rule is asked for behind 5 and before 6, so it is asked only of records that 01's check found sound so far. These are walked once more, on child
+// records, with the remaining depth falling from 64; with no rule in force they are not.
+ghost use mathlib.Core.Path.{_≡_};
+ghost use mathlib.Core.Bool.{true};
+ghost use Prim.Native.Nat.{_≤_};
+ghost use Rattle.tree.specs.Check.{inside as inside', longest, ChecksIn, placeOf};
+ghost use Rattle.rules.specs.Rules.{ruleFault, rulesOf, soundTo, ruled as ruled'};
+ghost use Rattle.rules.specs.Walk.{Led, Finds};
+use grammar::kind::CHECK;
+use grammar::kind::TEXT;
+use mode::Mode;
+use record::Record;
+use tree::Answer;
+
+// The rule for a CHECK's source, and 02's number of one that breaks it.
+const SOURCE: u64 = 1;
+
+const UNCLOSED: u64 = 9;
+
+// The rules for a record's children are a number, a byte for each child, the first child's the lowest; 0 is no rule.
+const BYTE: u64 = 0x100;
+
+const NO_RULES: u64 = 0;
+
+// A CHECK's second child is its source.
+const CHECK_RULES: u64 = SOURCE * BYTE;
+
+// The root is 1 deep, and a record may be this deep.
+const DEEPEST: usize = 64;
+
+// What a walk comes to: the number of a rule that is broken, and the record; or 0, and the index behind the walk.
+struct Found {
+    fault: u64,
+    at: usize,
+}
+
+// The number that a record comes to in a place with a rule, or with none: 0, or that of the refusal.
+fn rule_fault(text: &[u8], rule: u64, r: Record, mode: Mode) -> u64
+    requires { ⌜ inside' (now text) r ≡ true ⌝ }
+    ensures { λ f. ⌜ f ≡ ruleFault mode (now (text .entry)) rule r ⌝ }
+{
+    if rule != SOURCE {
+        return 0;
+    }
+    if !mode.strict {
+        return 0;
+    }
+    if r.kind != TEXT {
+        return 0;
+    }
+    let start = r.start as usize;
+    let end = start + r.len as usize;
+    if source::ends_inside(&text[start..end]) {
+        return UNCLOSED;
+    }
+    0
+}
+
+// The rules for the children of a kind.
+fn rules_of(kind: u16) -> u64
+    ensures { λ w. ⌜ w ≡ rulesOf kind ⌝ }
+{
+    if kind == CHECK {
+        return CHECK_RULES;
+    }
+    NO_RULES
+}
+
+// The first record before an end that breaks a rule, among n children with these rules and all below each.
+fn rule_row(
+    tree: &[u8],
+    text: &[u8],
+    index: usize,
+    rules: u64,
+    left: usize,
+    n: u16,
+    end: usize,
+    mode: Mode,
+) -> Found
+    requires { ⌜ (left ≤ 64) × Led (now tree) (now text) end index left rules n ⌝ }
+    ensures { λ w. ⌜ Finds mode (now (tree .entry)) (now (text .entry)) end index left rules n w ⌝ }
+{
+    let mut next = index;
+    let mut row = rules;
+    let mut rest = n;
+    while 0 < rest {
+        if end <= next {
+            return Found { fault: 0, at: next };
+        }
+        let r = record::read(tree, next);
+        let fault = rule_fault(text, row % BYTE, r, mode);
+        if fault != 0 {
+            return Found { fault, at: next };
+        }
+        next += 1;
+        if (r.kids != 0) & (next < end) {
+            let below = rules_of(r.kind);
+            let found = rule_row(tree, text, next, below, left - 1, r.kids, end, mode);
+            if found.fault != 0 {
+                return found;
+            }
+            next = found.at;
+        }
+        row = row / BYTE;
+        rest -= 1;
+    }
+    Found { fault: 0, at: next }
+}
+
+// How many records a rule may be asked of, where 01's check answers this: those before its refusal, and that record too if it is only too deep.
+fn sound_to(tree: &[u8], a: Answer) -> usize
+    requires { ⌜ placeOf a ≤ longest ⌝ }
+    ensures { λ n. ⌜ n ≡ soundTo (now (tree .entry)) a ⌝ }
+{
+    match a {
+        Answer::Admitted => record::count(tree),
+        Answer::Malformed => 0,
+        Answer::TooLong => 0,
+        Answer::Broken(_) => 0,
+        Answer::Mark(i) => i,
+        Answer::Misfit(i) => i,
+        Answer::Outside(i) => i,
+        Answer::Unclosed(i) => i,
+        Answer::Deep(i) => i + 1,
+        Answer::Ends(i) => i,
+    }
+}
+
+// The answer in a mode, where 01's check answers this and the walk comes to that.
+fn ruled(a: Answer, w: Found) -> Answer
+    ensures { λ r. ⌜ r ≡ ruled' a w ⌝ }
+{
+    if w.fault == UNCLOSED {
+        return Answer::Unclosed(w.at);
+    }
+    a
+}
+
+// The check of a tree and its text in a mode: the first fitting refusal, or that they are admitted.
+pub fn check(tree: &[u8], text: &[u8], mode: Mode) -> Answer
+    ensures { λ r. ⌜ ChecksIn mode (now (tree .entry)) (now (text .entry)) r ⌝ }
+{
+    let answer = tree::check(tree, text);
+    let strict = mode.strict;
+    if !strict {
+        return answer;
+    }
+    let end = sound_to(tree, answer);
+    ruled(
+        answer,
+        rule_row(tree, text, 0, NO_RULES, DEEPEST, 1, end, mode),
+    )
+}
