@@ -1,6 +1,7 @@
 #!/usr/bin/env bash
 # Builds the oracle, holds the stored files to it, and compares the library and the grammar's entries with the crate,
-# the check with the model, and what append writes with the reading rule.
+# the check with the model, what it says of CHECK sources with two readings of them, and what append writes with the
+# reading rule.
 # `run.sh --store` writes the stored files instead, and ends.
 # `run.sh --bench` tells the speed, the stack and the size of the library beside the crate's instead, and ends.
 set -euo pipefail
@@ -26,11 +27,12 @@ TREE_CASES=${TREE_CASES:-1000000}
 TREES_RENDERED=${TREES_RENDERED:-1000000}
 NUMBERS=${NUMBERS:-10000000}
 ENCODED=${ENCODED:-5000000}
+SOURCES=${SOURCES:-2000000}
 ENTRIES=${ENTRIES:-1000000}
 STREAMS=${STREAMS:-1000000}
 FUZZED=${FUZZED:-10000000}
 ENTRY_FAULTS=20000
-LISTED=1032
+LISTED=1182
 LISTED_SEED=1
 
 oracle=$(cd "$(dirname "${BASH_SOURCE[0]}")" && pwd)
@@ -154,6 +156,9 @@ echo "numbers of every length and both signs, against Rust's own decimal text an
 
 echo "texts that are whole, cut off or never UTF-8, against Rust's own check:"
 "$programs/compare" encoding "$ENCODED" "$SEED"
+
+echo "CHECK sources that are left open, every short one and random ones, against two readings:"
+"$programs/compare" sources "$SOURCES" "$SEED"
 
 echo "the library's calls on whatever comes, between known bytes and beside closed pages:"
 "$programs/compare" fuzz "$FUZZED" "$SEED"

@@ -1,4 +1,4 @@
-/* The three calls under libFuzzer, with an output, a tree and a text in memory of just their lengths.
+/* The calls under libFuzzer, with an output, a tree and a text in memory of just their lengths.
  *
  * The library is not instrumented: AddressSanitizer sees what it copies through memcpy, memmove and memset, and libFuzzer
  * does not see its branches. Instead every answer is told to libFuzzer as a counter, so that it keeps the inputs that are
@@ -19,7 +19,8 @@ enum {
     PLACES = 4096,      /* places told apart */
     NUMBERS = 13,       /* one more than the last number of an answer */
     LONGEST = 1 << 20,  /* longer texts are measured only */
-    NO_ROOM = 8
+    NO_ROOM = 8,
+    OPEN_SOURCE = 9
 };
 
 __attribute__((used, section("__libfuzzer_extra_counters"))) static uint8_t counters[2][NUMBERS][PLACES];
@@ -67,11 +68,12 @@ static int untouched(const uint8_t *out, size_t from, size_t length) {
     return from >= length;
 }
 
-/* Render agrees with measure, in this room. */
-static void rendered(const uint8_t *tree, size_t tree_len, const uint8_t *text, size_t text_len, uint64_t measured,
-                     size_t room) {
+/* Render agrees with measure, in this room; both with options, or without if there are none. */
+static void rendered(const uint32_t *options, const uint8_t *tree, size_t tree_len, const uint8_t *text,
+                     size_t text_len, uint64_t measured, size_t room) {
     uint8_t *out = output(room);
-    uint64_t answer = kinyandoma_render(tree, tree_len, text, text_len, out, room);
+    uint64_t answer = options ? kinyandoma_render_with(*options, tree, tree_len, text, text_len, out, room)
+                              : kinyandoma_render(tree, tree_len, text, text_len, out, room);
     int fits = number(measured) == 0 && place(measured) <= room;
     if (number(measured) == 0 && !fits) {
         hold(answer == ((uint64_t)NO_ROOM << 32 | place(measured)));
@@ -82,17 +84,29 @@ static void rendered(const uint8_t *tree, size_t tree_len, const uint8_t *text, 
     free(out);
 }
 
-static void tree_calls(const uint8_t *data, size_t size, size_t split, size_t room) {
+/* The two answers are one, or the switch is on and refuses what would be admitted or refused by the records. */
+static void switched(uint32_t options, uint64_t without, uint64_t with) {
+    int strict = (options & KINYANDOMA_STRICT) != 0;
+    int by_records = number(without) == 0 || (number(without) >= 3 && number(without) <= 7);
+    hold(without == with || (strict && by_records && number(with) == OPEN_SOURCE));
+}
+
+static void tree_calls(const uint8_t *data, size_t size, size_t split, size_t room, uint32_t options) {
     size_t tree_len = split < size ? split : size;
+    size_t text_len = size - tree_len;
     uint8_t *tree = copied(data, tree_len);
-    uint8_t *text = copied(data + tree_len, size - tree_len);
-    uint64_t measured = kinyandoma_measure(tree, tree_len, text, size - tree_len);
-    tell(0, measured);
-    size_t length = number(measured) == 0 ? place(measured) : 0;
+    uint8_t *text = copied(data + tree_len, text_len);
+    uint64_t without = kinyandoma_measure(tree, tree_len, text, text_len);
+    uint64_t with = kinyandoma_measure_with(options, tree, tree_len, text, text_len);
+    switched(options, without, with);
+    tell(0, with);
+    size_t length = number(without) == 0 ? place(without) : 0;
     if (length <= LONGEST) {
-        rendered(tree, tree_len, text, size - tree_len, measured, length);
-        rendered(tree, tree_len, text, size - tree_len, measured, room);
-        hold(memcmp(tree, data, tree_len) == 0 && memcmp(text, data + tree_len, size - tree_len) == 0);
+        rendered(NULL, tree, tree_len, text, text_len, without, length);
+        rendered(NULL, tree, tree_len, text, text_len, without, room);
+        rendered(&options, tree, tree_len, text, text_len, with, length);
+        rendered(&options, tree, tree_len, text, text_len, with, room);
+        hold(memcmp(tree, data, tree_len) == 0 && memcmp(text, data + tree_len, text_len) == 0);
     }
     free(tree);
     free(text);
@@ -138,7 +152,8 @@ static void append_call(const uint8_t *data, size_t size, uint16_t token, size_t
     free(out);
 }
 
-/* An input: which call, three numbers of a byte or two, and the bytes that are lent. */
+/* An input: which call, two numbers of two bytes, a byte of options, which stands for their lowest and their highest bits,
+ * and the bytes that are lent. */
 int LLVMFuzzerTestOneInput(const uint8_t *data, size_t size) {
     if (size < HEAD) {
         return 0;
@@ -148,7 +163,7 @@ int LLVMFuzzerTestOneInput(const uint8_t *data, size_t size) {
     if (data[0] & 1) {
         append_call(data + HEAD, size - HEAD, word, room);
     } else {
-        tree_calls(data + HEAD, size - HEAD, word, room);
+        tree_calls(data + HEAD, size - HEAD, word, room, data[5] | (uint32_t)data[5] << 24);
     }
     return 0;
 }

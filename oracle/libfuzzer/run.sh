@@ -1,5 +1,5 @@
 #!/usr/bin/env bash
-# Runs libFuzzer on the three calls for so many seconds (300), beginning with the trees of the gate. It needs clang with its
+# Runs libFuzzer on the calls for so many seconds (300), beginning with the trees of the gate. It needs clang with its
 # runtime, and python3. An input that fails stays in oracle/target/made.
 set -euo pipefail
 seconds=${1:-300}
@@ -9,8 +9,8 @@ made=$(mktemp -d)
 trap 'rm -r "$made"' EXIT
 mkdir -p "$made/corpus" oracle/target/made
 
-# Each stored tree of up to 2,000 bytes, as the input that lends it; and appends of an ID to a fresh record and to one that
-# has written two lines.
+# Each stored tree of up to 2,000 bytes, as the input that lends it with the switch on; and appends of an ID to a fresh
+# record and to one that has written two lines.
 python3 - crates/replay_text/stdin "$made/corpus" << 'EOF'
 import struct, sys
 data, at, name = open(sys.argv[1], "rb").read(), 0, 0
@@ -20,7 +20,7 @@ while at < len(data):
     at += 8 + tree + text
     name += 1
     if len(lent) <= 2000:
-        head = struct.pack("<BHBBB", 0, tree, 40, 0, 0)
+        head = struct.pack("<BHBBB", 0, tree, 40, 0, 1)
         open(f"{sys.argv[2]}/{name}", "wb").write(head + lent)
 for numbers in [(1, 0, 0, 0), (0, 9, 1, 3)]:
     for value in [b"a\nbc", b"x" * 40]:

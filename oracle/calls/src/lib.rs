@@ -17,6 +17,22 @@ extern "C" {
         out: *mut u8,
         out_len: usize,
     ) -> u64;
+    pub fn kinyandoma_measure_with(
+        options: u32,
+        tree: *const u8,
+        tree_len: usize,
+        text: *const u8,
+        text_len: usize,
+    ) -> u64;
+    pub fn kinyandoma_render_with(
+        options: u32,
+        tree: *const u8,
+        tree_len: usize,
+        text: *const u8,
+        text_len: usize,
+        out: *mut u8,
+        out_len: usize,
+    ) -> u64;
     pub fn kinyandoma_append(
         record: *mut u8,
         record_len: usize,

@@ -11,6 +11,7 @@ use calls::Stream;
 use model::damage::text::BAD;
 use model::encode::Written;
 use model::fixed::drop_type;
+use model::options;
 use model::samples::Judged;
 use std::collections::{BTreeMap, BTreeSet};
 use std::fmt;
@@ -228,7 +229,7 @@ fn as_value(part: &'static str, text: &[u8], random: &mut Random, counts: &mut C
 
 /// The name in the document's example, measured and rendered.
 fn as_text(part: &'static str, text: &[u8], random: &mut Random, counts: &mut Counts) -> Checked {
-    let case = drop_type(text);
+    let case = drop_type(text).with(options::any(random));
     let expected = text_in(text).map(written);
     let judged = Judged { case, expected };
     let fences = [known(random), fence(random), known(random)];
@@ -284,8 +285,8 @@ impl fmt::Display for Counts {
                 .for_each(|(all, one)| *all += one);
         }
         writeln!(f, "| all | {} |\n", cells(&sum))?;
-        let [measure, render] = self.trees.by_call();
-        let append = ("append", self.appended.by_number());
-        write!(f, "{}", answers(&[append, measure, render]))
+        let mut calls = vec![("append", self.appended.by_number())];
+        calls.extend(self.trees.by_call());
+        write!(f, "{}", answers(&calls))
     }
 }

@@ -1,7 +1,7 @@
 //! Plants each fault in the stand-ins and sees that the comparison finds it.
 
 use crate::trees::stand_in::{exchange, faulty_entries};
-use crate::{compare_all, encoding, fuzz, numbers, trees, Extent};
+use crate::{compare_all, encoding, fuzz, numbers, sources, trees, Extent};
 use model::record::Record;
 use model::samples::Judged;
 use model::texts;
@@ -76,6 +76,35 @@ faults! {
         OverlongIsCutOff
         MiddleIsCutOff
         PlaceOfLastByte;
+    SOURCES:
+        BlockClosedByItsOpening
+        OpenBlockTaken
+        QuoteInBlockOpens
+        LineInBlockOpens
+        NewlineEndsBlock
+        QuoteInLineOpens
+        BlockInLineOpens
+        LineRefused
+        ReturnEndsLine
+        LineInQuoteOpens
+        BlockInQuoteOpens
+        AnyQuoteCloses
+        BacktickIsNoQuote
+        LastSourceOnly
+        RowidLookedAt
+        OperatorLookedAt
+        ExpressionLookedAt
+        PlaceOfCheck
+        SourceBeforePart
+        SourceBeforeAll
+        SourceAfterDepth
+        SourceAfterCount
+        SourceAfterAll
+        SwitchAlwaysOn
+        SwitchNeverOn
+        SwitchInRenderOnly
+        OtherBitIsSwitch
+        OtherBitsTurnItOff;
     NUMBERS:
         OneSubtractionTooFew
         PowerLeftOut
@@ -93,6 +122,8 @@ const SEED: u64 = 1;
 const DECIMALS: u64 = 1;
 /// Random texts, for each fault in telling how a text is broken.
 const BROKEN: u64 = 20_000;
+/// Random trees, for each fault of the switch that refuses open CHECK sources.
+const STRICT: u64 = 20_000;
 /// Calls of the fuzz run, for each fault.
 const FUZZED: u64 = 1_000_000;
 
@@ -112,9 +143,10 @@ pub fn try_all(whole: bool) -> bool {
     let trees = all_found(&[STREAM, TREES, ENCODING].concat(), whole, &in_trees);
     let numbers = all_found(NUMBERS, whole, &difference_in_numbers);
     let encoding = all_found(ENCODING, whole, &difference_in_encoding);
-    let by_fuzz = [STREAM, APPEND, POSITION, TREES, ENCODING].concat();
+    let sources = all_found(SOURCES, whole, &difference_in_sources);
+    let by_fuzz = [STREAM, APPEND, POSITION, TREES, ENCODING, SOURCES].concat();
     let fuzzed = all_found(&by_fuzz, whole, &difference_in_fuzz);
-    append && trees && entries && numbers && encoding && fuzzed
+    append && trees && entries && numbers && encoding && sources && fuzzed
 }
 
 /// The difference that is found with a fault, if any is.
@@ -166,6 +198,11 @@ fn difference_in_numbers(fault: usize) -> Option<String> {
 fn difference_in_encoding(fault: usize) -> Option<String> {
     PLANTED.store(fault, Ordering::Relaxed);
     encoding::compare_few(BROKEN, SEED).err()
+}
+
+fn difference_in_sources(fault: usize) -> Option<String> {
+    PLANTED.store(fault, Ordering::Relaxed);
+    sources::compare_few(STRICT, SEED).err()
 }
 
 fn difference_in_fuzz(fault: usize) -> Option<String> {

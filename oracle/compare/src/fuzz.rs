@@ -1,4 +1,4 @@
-//! All three calls on whatever comes: good trees, damaged ones, bytes of any sort, odd rooms and records, lent between known
+//! All calls on whatever comes: good trees, damaged ones, bytes of any sort, odd rooms and records, lent between known
 //! bytes and beside pages that nobody may touch. Every answer and every byte is held to the model, and to the entries of the
 //! definition with the crate's stream.
 
@@ -11,7 +11,7 @@ use crate::crash;
 use crate::guarded::{Fence, Fences, SHIFTS};
 use crate::report;
 use crate::trees;
-use judge::Judge;
+pub use judge::Judge;
 #[cfg(feature = "selftest")]
 pub use judge::SOURCES;
 use pool::Pool;
@@ -98,8 +98,8 @@ impl fmt::Display for Counts {
         writeln!(f, "{}", self.trees.told_parts())?;
         let [bytes, before, after] = self.fences;
         writeln!(f, "parts lent between known bytes: {bytes}, with a closed page before: {before}, with one behind: {after}")?;
-        let [measure, render] = self.trees.by_call();
-        let append = ("append", self.appended.by_number());
-        write!(f, "\n{}", trees::answers(&[append, measure, render]))
+        let mut calls = vec![("append", self.appended.by_number())];
+        calls.extend(self.trees.by_call());
+        write!(f, "\n{}", trees::answers(&calls))
     }
 }

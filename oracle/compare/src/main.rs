@@ -14,6 +14,7 @@ mod readable;
 mod refusals;
 mod report;
 mod rules;
+mod sources;
 #[cfg(feature = "selftest")]
 mod stand_in;
 mod streams;
@@ -28,6 +29,7 @@ const USAGE: &str = "usage: compare [TOKENS [REFUSED-CALLS [SEED]]]
        compare trees COUNT SEED
        compare numbers COUNT SEED
        compare encoding COUNT SEED
+       compare sources COUNT SEED
        compare reading COUNT SEED
        compare fuzz CALLS SEED";
 const DEFAULT_CALLS: u64 = 1_000_000;
@@ -48,6 +50,7 @@ fn main() {
         Some("trees") => compare_random(&words[1..], &trees::compare),
         Some("numbers") => compare_random(&words[1..], &numbers::compare),
         Some("encoding") => compare_random(&words[1..], &encoding::compare),
+        Some("sources") => compare_random(&words[1..], &sources::compare),
         Some("reading") => compare_random(&words[1..], &readable::compare),
         Some("fuzz") => compare_random(&words[1..], &fuzz::compare),
         _ => {

@@ -3,6 +3,7 @@
 use crate::trees::{self, answers, by_bytes};
 use model::damage::Case;
 use model::encode::{encode, Written};
+use model::options;
 use model::samples::Judged;
 use std::fmt;
 use tokens::random::Random;
@@ -84,7 +85,7 @@ fn hold(
     if stmt.text() != text {
         return Err(format!("the crate writes {:?}", stmt.text()));
     }
-    let case = Case::from(encode(&stmt));
+    let case = Case::from(encode(&stmt)).with(options::any(random));
     let expected = Ok(text);
     let judged = Judged { case, expected };
     let fences = by_bytes(random.word() as usize);

@@ -1,4 +1,4 @@
-//! Compares kinyandoma_measure and kinyandoma_render with the crate's texts and the model's refusals.
+//! Compares measure and render, with options and without, with the crate's texts and the model's refusals.
 
 mod call;
 mod report;
@@ -7,9 +7,9 @@ pub mod stand_in;
 
 use crate::guarded::Fences;
 pub use call::by_bytes;
-use call::{Call, Lent};
-use model::check::check;
+use call::{Asked, Call, Lent};
 use model::damage::{damage, Case};
+use model::options::{self, MEANT, STRICT};
 use model::samples::{sample, Judged};
 use model::texts;
 pub use report::{answers, told, Counts, Difference};
@@ -38,11 +38,11 @@ pub fn compare_with<'a>(
     let mut random = Random::new(seed);
     let mut counts = Counts::default();
     for judged in listed {
-        let fences = by_bytes(random.word() as usize);
-        hold("a listed tree", judged, fences, &mut random, &mut counts)?;
+        hold_listed(judged, &mut random, &mut counts)?;
     }
     for _ in 0..count {
-        let judged = sample(&mut random).judged();
+        let options = options::any(&mut random);
+        let judged = sample(&mut random).judged_with(options);
         let fences = by_bytes(random.word() as usize);
         hold("a random value", &judged, fences, &mut random, &mut counts)?;
         if random.one_in(DAMAGED) {
@@ -52,12 +52,24 @@ pub fn compare_with<'a>(
     Ok(counts)
 }
 
+/// With the switch off, and with it on; each with bits that mean nothing.
+fn hold_listed(judged: &Judged, random: &mut Random, counts: &mut Counts) -> Checked {
+    for switch in [0, STRICT] {
+        let options = switch | options::meaningless(random);
+        let judged = judged.asked(options);
+        let fences = by_bytes(random.word() as usize);
+        hold("a listed tree", &judged, fences, random, counts)?;
+    }
+    Ok(())
+}
+
 /// Damaged copies, but for those that are good trees still: the crate has no text for them.
 fn hold_damaged(case: &Case, random: &mut Random, counts: &mut Counts) -> Checked {
     for _ in 0..COPIES {
         let mut case = case.clone();
         damage(random, &mut case);
-        let refusal = check(&case.tree, &case.text);
+        case.options = options::any(random);
+        let refusal = case.refusal();
         if refusal.0 > 0 {
             let expected = Err(refusal);
             let judged = Judged { case, expected };
@@ -68,7 +80,7 @@ fn hold_damaged(case: &Case, random: &mut Random, counts: &mut Counts) -> Checke
     Ok(())
 }
 
-/// All calls for one tree, with the parts lent so.
+/// All calls for one tree, with the parts lent so. Where no option means anything, each is made with options or without.
 pub fn hold(
     part: &'static str,
     judged: &Judged,
@@ -76,9 +88,46 @@ pub fn hold(
     random: &mut Random,
     counts: &mut Counts,
 ) -> Checked {
+    let asked = asked(judged, random);
+    let calls = asked.into_iter().map(|asked| Call {
+        with_options: judged.case.options & MEANT != 0 || random.one_in(2),
+        asked,
+    });
+    make(calls.collect(), part, judged, fences, counts)
+}
+
+/// The same, but where no option means anything, each call is made with options and without.
+pub fn hold_both(
+    part: &'static str,
+    judged: &Judged,
+    fences: Fences,
+    random: &mut Random,
+    counts: &mut Counts,
+) -> Checked {
+    let ways: &[bool] = match judged.case.options & MEANT {
+        0 => &[false, true],
+        _ => &[true],
+    };
+    let asked = asked(judged, random);
+    let calls = ways.iter().flat_map(|&with_options| {
+        asked.iter().map(move |asked| Call {
+            with_options,
+            asked: asked.clone(),
+        })
+    });
+    make(calls.collect(), part, judged, fences, counts)
+}
+
+fn make(
+    calls: Vec<Call>,
+    part: &'static str,
+    judged: &Judged,
+    fences: Fences,
+    counts: &mut Counts,
+) -> Checked {
     counts.tree(part, judged);
     let mut lent = Lent::new(&judged.case, fences);
-    for call in calls(judged, random) {
+    for call in calls {
         let observed = lent.observed(&call);
         let expected = call.expected(judged);
         if observed != expected {
@@ -97,7 +146,7 @@ pub fn hold(
 }
 
 /// Measure; render with just the room, with more, with one byte less, and with any less.
-fn calls(judged: &Judged, random: &mut Random) -> Vec<Call> {
+fn asked(judged: &Judged, random: &mut Random) -> Vec<Asked> {
     let rooms = match &judged.expected {
         Err(_) => vec![random.below(MORE)],
         Ok(text) if text.is_empty() => vec![0, random.between(1, MORE)],
@@ -107,7 +156,7 @@ fn calls(judged: &Judged, random: &mut Random) -> Vec<Call> {
             vec![length, more, length - 1, random.below(length)]
         }
     };
-    let render = |room| Call::Render(random.bytes(room));
+    let render = |room| Asked::Render(random.bytes(room));
     let renders = rooms.into_iter().map(render);
-    [Call::Measure].into_iter().chain(renders).collect()
+    [Asked::Measure].into_iter().chain(renders).collect()
 }

@@ -1,42 +1,59 @@
 //! The refusals of a tree and its text.
 
 use crate::grammar::{
-    self, known_token, row, takes, Class, Slot, LIST, NONE, NUMBER, ROOT, ROOT_ELEMENT, RUN, TEXT,
-    TOKEN, TOKENS,
+    self, known_token, row, takes, Class, Slot, CHECK, LIST, NONE, NUMBER, ROOT, ROOT_ELEMENT, RUN,
+    TEXT, TOKEN, TOKENS,
 };
+use crate::options::STRICT;
 use crate::record::{Record, MARK, MOST_BYTES, SIZE, VALUE_PRESENT};
+use crate::source::ends_inside;
 use tokens::encoding::{text_in, Refusal};
 
 pub const DEEPEST: usize = 64;
 
 /// The number and place of the first refusal, (0, 0) if the tree is admitted.
 pub fn check(tree: &[u8], text: &[u8]) -> (u32, u32) {
-    match first_refusal(tree, text) {
+    check_with(0, tree, text)
+}
+
+/// The same of a call with options.
+pub fn check_with(options: u32, tree: &[u8], text: &[u8]) -> (u32, u32) {
+    match first_refusal(options, tree, text) {
         Ok(()) => (0, 0),
         Err(refusal) => refusal,
     }
 }
 
-fn first_refusal(tree: &[u8], text: &[u8]) -> Result<(), Refusal> {
+fn first_refusal(options: u32, tree: &[u8], text: &[u8]) -> Result<(), Refusal> {
     if tree.is_empty() || tree.len() > MOST_BYTES || !tree.len().is_multiple_of(SIZE) {
         return Err((1, 0));
     }
-    let text = text_in(text)?;
-    let next = 0;
-    let mut walk = Walk { tree, text, next };
-    walk.record(&ROOT, 1)?;
+    let mut walk = Walk {
+        tree,
+        text: text_in(text)?,
+        strict: options & STRICT != 0,
+        next: 0,
+    };
+    walk.record(&ROOT, None, 1)?;
     walk.end()
 }
 
 struct Walk<'a> {
     tree: &'a [u8],
     text: &'a str,
+    /// Whether a CHECK source that is left open is refused.
+    strict: bool,
     next: usize,
 }
 
 impl Walk<'_> {
-    /// The next record, which stands in this slot, and all below it.
-    fn record(&mut self, slot: &'static Slot, depth: usize) -> Result<(), Refusal> {
+    /// The next record, which stands in this slot below a record of this kind, and all below it.
+    fn record(
+        &mut self,
+        slot: &'static Slot,
+        above: Option<u16>,
+        depth: usize,
+    ) -> Result<(), Refusal> {
         let index = self.next as u32;
         let record = Record::read(self.tree, self.next).ok_or((7, index))?;
         self.next += 1;
@@ -45,6 +62,7 @@ impl Walk<'_> {
             (3, record.mark == MARK),
             (4, allowed),
             (5, part_inside(&record, self.text)),
+            (9, !self.left_open(&record, above)),
             (6, depth <= DEEPEST),
         ];
         match tests.iter().find(|(_, passed)| !passed) {
@@ -54,11 +72,21 @@ impl Walk<'_> {
     }
 
     fn children(&mut self, parent: &Record, slot: &Slot, depth: usize) -> Result<(), Refusal> {
+        let above = Some(parent.kind);
         if let Some(every) = slot_of_every_child(parent.kind, slot) {
-            return (0..parent.children).try_for_each(|_| self.record(every, depth));
+            return (0..parent.children).try_for_each(|_| self.record(every, above, depth));
         }
         let slots = row(parent.kind).map_or(&[][..], |kind| kind.slots);
-        slots.iter().try_for_each(|slot| self.record(slot, depth))
+        slots
+            .iter()
+            .try_for_each(|slot| self.record(slot, above, depth))
+    }
+
+    /// Whether the record is the source of a CHECK, the one TEXT that a Check has, and is left open although that is
+    /// asked to be refused. False of a part that is not inside the text.
+    fn left_open(&self, record: &Record, above: Option<u16>) -> bool {
+        let source = self.strict && record.kind == TEXT && above == Some(CHECK);
+        source && part(record, self.text).is_some_and(ends_inside)
     }
 
     /// Nothing may be left over.
@@ -121,8 +149,15 @@ fn part_inside(record: &Record, text: &str) -> bool {
         TOKEN => has_value(record),
         _ => false,
     };
-    let end = u64::from(record.start) + u64::from(record.length);
-    !has_part || (at_edge(text, u64::from(record.start)) && at_edge(text, end))
+    !has_part || part(record, text).is_some()
+}
+
+/// The text part that a record names, if both ends are inside the text, or at its end, and not inside a character.
+fn part<'a>(record: &Record, text: &'a str) -> Option<&'a str> {
+    let start = u64::from(record.start);
+    let end = start + u64::from(record.length);
+    let ends_are_good = at_edge(text, start) && at_edge(text, end);
+    ends_are_good.then(|| &text[start as usize..end as usize])
 }
 
 /// Inside the text or at its end, and not inside a character.

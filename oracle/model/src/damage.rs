@@ -6,6 +6,7 @@ mod shape;
 pub mod sizes;
 pub mod text;
 
+use crate::check::check_with;
 use crate::encode::Pair;
 use crate::record::{Record, SIZE};
 use tokens::random::Random;
@@ -16,20 +17,37 @@ pub struct Damage {
     apply: fn(&mut Random, &mut Case),
 }
 
-/// A tree and a text, to be checked together.
+/// A tree and a text, to be checked together, and the options of the call.
 #[derive(Clone, Debug, PartialEq)]
 pub struct Case {
+    pub options: u32,
     pub tree: Vec<u8>,
     pub text: Vec<u8>,
 }
 
+/// Without options.
 impl From<Pair> for Case {
     fn from((tree, text): Pair) -> Case {
-        Case { tree, text }
+        let options = 0;
+        Case {
+            options,
+            tree,
+            text,
+        }
     }
 }
 
 impl Case {
+    /// The case with these options.
+    pub fn with(self, options: u32) -> Case {
+        Case { options, ..self }
+    }
+
+    /// The model's answer: the first refusal, (0, 0) if there is none.
+    pub fn refusal(&self) -> (u32, u32) {
+        check_with(self.options, &self.tree, &self.text)
+    }
+
     pub fn records(&self) -> usize {
         self.tree.len() / SIZE
     }

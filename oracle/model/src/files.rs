@@ -1,11 +1,16 @@
 //! Cases as bytes, answers as lines.
 
-use crate::check::check;
 use crate::damage::Case;
 use std::io::{self, ErrorKind, Read, Write};
 
-/// Tree length, text length, tree, text.
+/// Options, then the case without them.
 pub fn write_case(out: &mut impl Write, case: &Case) -> io::Result<()> {
+    out.write_all(&case.options.to_le_bytes())?;
+    write_pair(out, case)
+}
+
+/// Tree length, text length, tree, text.
+pub fn write_pair(out: &mut impl Write, case: &Case) -> io::Result<()> {
     for bytes in [&case.tree, &case.text] {
         let length = u32::try_from(bytes.len()).expect("a length of four bytes");
         out.write_all(&length.to_le_bytes())?;
@@ -16,21 +21,22 @@ pub fn write_case(out: &mut impl Write, case: &Case) -> io::Result<()> {
 
 /// The next case, or none at the end.
 pub fn read_case(input: &mut impl Read) -> io::Result<Option<Case>> {
-    let Some(tree) = read_length(input)? else {
+    let Some(options) = read_word(input)? else {
         return Ok(None);
     };
-    let text = read_length(input)?.ok_or(ErrorKind::UnexpectedEof)?;
-    let mut case = Case::from((vec![0; tree], vec![0; text]));
+    let mut length = || read_word(input)?.ok_or(io::Error::from(ErrorKind::UnexpectedEof));
+    let (tree, text) = (length()? as usize, length()? as usize);
+    let mut case = Case::from((vec![0; tree], vec![0; text])).with(options);
     input.read_exact(&mut case.tree)?;
     input.read_exact(&mut case.text)?;
     Ok(Some(case))
 }
 
 /// None at the end of the input.
-fn read_length(input: &mut impl Read) -> io::Result<Option<usize>> {
+fn read_word(input: &mut impl Read) -> io::Result<Option<u32>> {
     let mut bytes = [0; 4];
     match input.read_exact(&mut bytes) {
-        Ok(()) => Ok(Some(u32::from_le_bytes(bytes) as usize)),
+        Ok(()) => Ok(Some(u32::from_le_bytes(bytes))),
         Err(error) if error.kind() == ErrorKind::UnexpectedEof => Ok(None),
         Err(error) => Err(error),
     }
@@ -38,7 +44,7 @@ fn read_length(input: &mut impl Read) -> io::Result<Option<usize>> {
 
 /// What the model says of a case: `NUMBER PLACE`.
 pub fn answer(case: &Case) -> String {
-    let (number, place) = check(&case.tree, &case.text);
+    let (number, place) = case.refusal();
     format!("{number} {place}")
 }
 

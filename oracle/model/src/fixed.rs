@@ -3,6 +3,7 @@
 mod edges;
 mod kinds;
 mod order;
+mod sources;
 
 use crate::damage::Case;
 use crate::record::{Record, SIZE};
@@ -14,14 +15,21 @@ const LARGE: usize = 4_000;
 
 /// The listed cases, and random ones until there are `count`.
 pub fn all(count: usize, seed: u64) -> Vec<Case> {
-    let mut random = Random::new(seed);
-    let mut cases = order::cases();
-    cases.extend(kinds::cases(&mut random));
-    cases.extend(edges::cases(&mut random));
+    let mut cases = plain(seed);
+    cases.extend(sources::cases());
     let random_ones = Row::new(seed).map(|(_, case)| case);
     let small = random_ones.filter(|case| case.tree.len() + case.text.len() <= LARGE);
     let missing = count.saturating_sub(cases.len());
     cases.extend(small.take(missing));
+    cases
+}
+
+/// The listed cases without options.
+pub fn plain(seed: u64) -> Vec<Case> {
+    let mut random = Random::new(seed);
+    let mut cases = order::cases();
+    cases.extend(kinds::cases(&mut random));
+    cases.extend(edges::cases(&mut random));
     cases
 }
 

@@ -2,7 +2,7 @@
 
 use crate::damage::Case;
 use crate::files::{answer, hex};
-use crate::row::Row;
+use crate::row::with_options;
 use std::collections::BTreeMap;
 use std::fmt;
 use std::io::BufRead;
@@ -35,7 +35,7 @@ pub fn judge(count: usize, seed: u64, input: impl BufRead) -> Result<Counts, Box
         Some(Err(error)) => format!("unreadable: {error}"),
         None => "no line".to_string(),
     };
-    for (at, (name, case)) in Row::new(seed).take(count).enumerate() {
+    for (at, (name, case)) in with_options(seed).take(count).enumerate() {
         let expected = answer(&case);
         let observed = line();
         if observed != expected {
@@ -92,6 +92,7 @@ impl fmt::Display for Counts {
 impl fmt::Display for Difference {
     fn fmt(&self, f: &mut fmt::Formatter<'_>) -> fmt::Result {
         writeln!(f, "difference at case {} ({})", self.at, self.name)?;
+        writeln!(f, "options {:#x}", self.case.options)?;
         writeln!(f, "tree {}", hex(&self.case.tree))?;
         writeln!(f, "text {}", hex(&self.case.text))?;
         writeln!(f, "expected {}", self.expected)?;

@@ -1,8 +1,7 @@
 //! Writes cases and the model's answers, judges answers, tells what the good trees hold.
 
 use model::damage::Case;
-use model::row::Row;
-use model::{files, fixed, judge, tally, texts};
+use model::{files, fixed, judge, row, tally, texts};
 use std::io::{self, BufReader, BufWriter, Write};
 use std::{env, fs, process};
 
@@ -37,21 +36,26 @@ fn number<T: std::str::FromStr>(word: &str) -> T {
 fn write_cases(count: usize, seed: u64, input: &str, expected: &str) -> io::Result<()> {
     let cases = fixed::all(count, seed);
     let lines = cases.iter().map(|case| (case, files::answer(case)));
-    write_lines(lines.collect(), input, expected)
+    write_lines(lines.collect(), files::write_case, input, expected)
 }
 
 fn write_texts(input: &str, expected: &str) -> io::Result<()> {
     let all = texts::all();
     let lines = all.iter().map(|judged| (&judged.case, texts::line(judged)));
-    write_lines(lines.collect(), input, expected)
+    write_lines(lines.collect(), files::write_pair, input, expected)
 }
 
-/// Cases, and a line for each.
-fn write_lines(cases: Vec<(&Case, String)>, input: &str, expected: &str) -> io::Result<()> {
+/// Cases in one of their two forms, and a line for each.
+fn write_lines(
+    cases: Vec<(&Case, String)>,
+    write: fn(&mut Vec<u8>, &Case) -> io::Result<()>,
+    input: &str,
+    expected: &str,
+) -> io::Result<()> {
     let mut bytes = Vec::new();
     let mut lines = String::new();
     for (case, line) in &cases {
-        files::write_case(&mut bytes, case)?;
+        write(&mut bytes, case)?;
         lines += &format!("{line}\n");
     }
     fs::write(input, &bytes)?;
@@ -62,7 +66,7 @@ fn write_lines(cases: Vec<(&Case, String)>, input: &str, expected: &str) -> io::
 
 fn stream(count: usize, seed: u64) -> io::Result<()> {
     let mut out = BufWriter::new(io::stdout().lock());
-    for (_, case) in Row::new(seed).take(count) {
+    for (_, case) in row::with_options(seed).take(count) {
         files::write_case(&mut out, &case)?;
     }
     out.flush()

@@ -3,11 +3,13 @@
 use crate::check::check;
 use crate::damage::{damage, Case};
 use crate::encode::Pair;
-use crate::{grow, random};
+use crate::{grow, options, random, sources};
 use tokens::random::Random;
 
 /// Damaged copies of each good tree.
 const COPIES: usize = 4;
+/// One case in so many is a table of CHECKs, in the row with options.
+const TABLES: usize = 8;
 
 pub const GOOD: &str = "good";
 
@@ -44,6 +46,31 @@ impl Iterator for Row {
         let name = damage(&mut self.random, &mut case);
         Some((name, case))
     }
+}
+
+/// The same row, each case with options, half of them with other CHECK sources, and a table of CHECKs in the place of some.
+pub fn with_options(seed: u64) -> impl Iterator<Item = Named> {
+    // Other numbers than the row's, which stays as it is.
+    let mut random = Random::new(!seed);
+    Row::new(seed).map(move |(mut name, mut case)| {
+        if random.one_in(TABLES) {
+            (name, case) = table(&mut random);
+        }
+        if random.one_in(2) {
+            sources::exchange(&mut random, &mut case);
+        }
+        (name, case.with(options::any(&mut random)))
+    })
+}
+
+/// As it is, or damaged.
+fn table(random: &mut Random) -> Named {
+    let mut case = Case::from(sources::table(random));
+    if random.one_in(2) {
+        return ("a table of CHECKs", case);
+    }
+    damage(random, &mut case);
+    ("a table of CHECKs, damaged", case)
 }
 
 /// From a value of the crate's types mostly, from the grammar alone sometimes.

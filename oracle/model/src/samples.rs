@@ -1,6 +1,5 @@
 //! Random values, each with its tree and with what the crate writes for it.
 
-use crate::check::check;
 use crate::damage::Case;
 use crate::encode::{encode_by, encode_list_by, Encode, Pair, Writer};
 use crate::grammar::{CHECK, RUN, TOKEN};
@@ -23,6 +22,18 @@ pub struct Sample {
 pub struct Judged {
     pub case: Case,
     pub expected: Result<String, (u32, u32)>,
+}
+
+impl Judged {
+    /// The same tree and text, which have no options, in a call with these.
+    pub fn asked(&self, options: u32) -> Judged {
+        let case = self.case.clone().with(options);
+        let expected = match case.refusal() {
+            (0, _) => self.expected.clone(),
+            refusal => Err(refusal),
+        };
+        Judged { case, expected }
+    }
 }
 
 /// Most elements of a root LIST, and most tokens in a RUN's place.
@@ -65,8 +76,13 @@ pub fn of_list(values: &[Box<dyn Encode>]) -> Sample {
 impl Sample {
     /// The crate's text, if the tree is admitted.
     pub fn judged(self) -> Judged {
-        let case = Case::from(self.pair);
-        let expected = match check(&case.tree, &case.text) {
+        self.judged_with(0)
+    }
+
+    /// The same for a call with options.
+    pub fn judged_with(self, options: u32) -> Judged {
+        let case = Case::from(self.pair).with(options);
+        let expected = match case.refusal() {
             (0, _) => Ok(self.text),
             refusal => Err(refusal),
         };

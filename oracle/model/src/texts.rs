@@ -3,7 +3,6 @@
 mod corners;
 mod covering;
 
-use crate::check::check;
 use crate::files::hex;
 use crate::fixed;
 use crate::grammar::TOKEN;
@@ -42,8 +41,8 @@ pub fn line(judged: &Judged) -> String {
 fn refused() -> Vec<Judged> {
     let mut counts = [0; NUMBERS];
     let mut refused = vec![];
-    for case in fixed::all(0, SEED) {
-        let refusal = check(&case.tree, &case.text);
+    for case in fixed::plain(SEED) {
+        let refusal = case.refusal();
         let count = &mut counts[refusal.0 as usize];
         let small = case.tree.len() + case.text.len() <= LARGE;
         let broken = matches!(refusal.0, NOT_UTF8 | CUT_OFF);

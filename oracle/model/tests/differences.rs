@@ -1,6 +1,7 @@
 //! The smallest inputs of docs/DIFFERENCES.md: what the crate writes for them, and what is refused.
 
 use model::encode::Encode;
+use model::options::STRICT;
 use model::random::select::{only, plain};
 use model::samples::{of, of_list};
 use tokens::token::Token;
@@ -108,4 +109,10 @@ fn what_the_crate_writes_and_is_refused() {
     let brackets = |times| (0..times).fold(table(), |from, _| sub(from));
     assert!(answer(&brackets(MOST_BRACKETS)).is_ok());
     assert_eq!(answer(&brackets(MOST_BRACKETS + 1)), Err((6, 64)));
+    let check = TableConstraint::Check {
+        expr: Box::new(Expr::Id(Name::exact("x".to_string()))),
+        source: Some("/*".to_string()),
+    };
+    assert_eq!(written(&check), "CHECK (/*)");
+    assert_eq!(of(&check).judged_with(STRICT).expected, Err((9, 3)));
 }

@@ -1,11 +1,13 @@
 //! Examples made by hand: the document's cases, and each refusal at its smallest.
 
-use model::check::check;
+use model::check::{check, check_with};
 use model::damage::Case;
 use model::fixed::{drop_type, of};
-use model::grammar::{LIST, NONE, NUMBER, RUN, TEXT, TOKEN};
+use model::grammar::{CHECK, LIST, NONE, NUMBER, RUN, TEXT, TOKEN};
 use model::grow;
+use model::options::STRICT;
 use model::record::{Record, SIZE, VALUE_PRESENT};
+use model::source::ends_inside;
 use tokens::random::Random;
 
 fn answer(case: &Case) -> (u32, u32) {
@@ -228,6 +230,72 @@ fn refusal_7() {
     let mut broken = drop_type(b"geo");
     broken.tree.extend([0xFF; 2 * SIZE]);
     assert_eq!(answer(&broken), (7, 3));
+}
+
+/// Two CHECKs in a LIST, with these sources.
+fn two_checks(sources: [&str; 2]) -> Case {
+    let mut records = vec![Record::new(LIST, 2)];
+    let mut start = 0;
+    for source in sources {
+        let length = source.len() as u32;
+        records.extend([Record::new(CHECK, 2), Record::new(RUN, 0)]);
+        records.push(Record::part(TEXT, 0, start, length));
+        start += length;
+    }
+    of(&records, sources.concat().as_bytes())
+}
+
+#[test]
+fn refusal_9() {
+    for (sources, expected) in [
+        (["a", "'"], (9, 6)),
+        (["/*", "'"], (9, 3)),
+        (["'a", "b'"], (9, 3)),
+        (["", "--'"], (0, 0)),
+    ] {
+        let case = two_checks(sources);
+        assert_eq!(answer(&case), (0, 0));
+        assert_eq!(case.clone().with(2).refusal(), (0, 0));
+        assert_eq!(case.clone().with(STRICT).refusal(), expected);
+        assert_eq!(case.with(u32::MAX).refusal(), expected);
+    }
+    let drop_open = drop_type(b"'");
+    assert_eq!(check_with(STRICT, &drop_open.tree, b"'"), (0, 0));
+}
+
+#[test]
+fn where_9_stands_in_the_order() {
+    let open = two_checks(["'", "a"]).with(STRICT);
+    let with = |index, change: fn(&mut Record)| {
+        let mut case = open.clone();
+        case.edit(index, change);
+        case.refusal()
+    };
+    assert_eq!(with(3, |record| record.mark = [0, 0]), (3, 3));
+    assert_eq!(with(3, |record| record.flags = 1), (4, 3));
+    assert_eq!(with(3, |record| record.length = 3), (5, 3));
+    assert_eq!(with(2, |record| record.flags = 1), (4, 2));
+    assert_eq!(with(4, |record| record.mark = [0, 0]), (9, 3));
+    assert_eq!(with(6, |record| record.length = 3), (9, 3));
+    let mut cut = open.clone();
+    cut.tree.truncate(4 * SIZE);
+    assert_eq!(cut.refusal(), (9, 3));
+    cut.tree.truncate(3 * SIZE);
+    assert_eq!(cut.refusal(), (7, 3));
+}
+
+#[test]
+fn sources_end_inside_something_or_not() {
+    for source in [
+        "", "/**/", "/*'*/", "'/*'", "'--'", "''''", "--'", "--/*", "*/",
+    ] {
+        assert!(!ends_inside(source), "{source}");
+    }
+    for source in [
+        "/*", "/*/", "'", "\"'", "`a", "'''", "--\n'", "/*--\n", "'--\n",
+    ] {
+        assert!(ends_inside(source), "{source}");
+    }
 }
 
 #[test]

@@ -2,7 +2,6 @@
 
 use entries::interpret::{node, CORNERS};
 use entries::{read, written, Grammar};
-use model::check::check;
 use model::damage::Case;
 use model::samples::Judged;
 use tokens::judge::text_of;
@@ -28,7 +27,7 @@ impl Judge {
 
     /// The model's refusal, or what the crate's stream writes for the tokens of the entries.
     pub fn judged(&self, case: Case) -> Result<Judged, String> {
-        let expected = match check(&case.tree, &case.text) {
+        let expected = match case.refusal() {
             (0, _) => Ok(self.text(&case)?),
             refusal => Err(refusal),
         };

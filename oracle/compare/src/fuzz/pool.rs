@@ -1,13 +1,14 @@
 //! Trees and texts to try, those that were answered in a new way kept for later.
 
 use super::mutate::mutate;
+use crate::sources::drawn;
 use model::damage::sizes::of_records;
 use model::damage::text::filled_to;
 use model::damage::{damage, Case};
 use model::grammar::{LIST, NONE, NUMBER, RUN, TEXT, TOKEN};
-use model::grow;
 use model::record::{Record, MARK, MOST_BYTES, MOST_RECORDS, SIZE};
 use model::samples::{sample, Judged};
+use model::{grow, options, sources};
 use std::collections::HashSet;
 use tokens::random::Random;
 use tokens::token::VALUE_PRESENT;
@@ -27,9 +28,10 @@ const LIMITS: usize = 400;
 /// ColumnsAndConstraints with its options, Check with its source, OperatorClause with its quotes.
 const CORNERED: [u16; 3] = [98, 103, 116];
 /// What their texts are made of, and fewer pieces than this.
-const CORNERS: [&str; 20] = [
+const CORNERS: [&str; 25] = [
     "a", "b", "é", " ", "\t", "\n", "\x0B", "\u{1F}", "\u{85}", "\u{A0}", "\u{1680}", "\u{2003}",
-    "\u{200B}", "\u{2028}", "\u{3000}", "\u{FEFF}", "-", "--", "'", "\"",
+    "\u{200B}", "\u{2028}", "\u{3000}", "\u{FEFF}", "-", "--", "'", "\"", "`", "/*", "*/", "/",
+    "*",
 ];
 const PIECES: usize = 7;
 
@@ -43,12 +45,17 @@ pub struct Pool {
 }
 
 impl Pool {
-    /// A case, and in a few words where it comes from.
+    /// A case with any options, and in a few words where it comes from.
     pub fn drawn(&self, random: &mut Random) -> (&'static str, Case) {
+        let (part, case) = self.tree(random);
+        (part, case.with(options::any(random)))
+    }
+
+    fn tree(&self, random: &mut Random) -> (&'static str, Case) {
         if random.one_in(LIMITS) {
             return ("at the limits of length", limits(random));
         }
-        match random.below(16) {
+        match random.below(17) {
             0 => ("random bytes", noise(random)),
             1 => ("random records", records(random)),
             2..=3 => ("a good tree", good(random)),
@@ -56,6 +63,7 @@ impl Pool {
             5..=8 => ("damaged", self.damaged(random)),
             9..=13 => ("bytes changed", self.changed(random)),
             14 => ("another's text", self.exchanged(random)),
+            15 => ("sources of CHECKs", drawn::tree(random).1),
             _ => ("two trees joined", self.joined(random)),
         }
     }
@@ -109,7 +117,7 @@ impl Pool {
 
     fn exchanged(&self, random: &mut Random) -> Case {
         let (tree, text) = (self.any(random).tree, self.any(random).text);
-        Case { tree, text }
+        Case::from((tree, text))
     }
 
     /// The beginning of one tree and the end of another, cut between records.
@@ -123,11 +131,12 @@ impl Pool {
     }
 }
 
-/// Grown from the grammar, or from a value of the crate's own types.
+/// Grown from the grammar, from a value of the crate's own types, or a table with CHECKs.
 fn good(random: &mut Random) -> Case {
-    match random.one_in(8) {
-        true => sample(random).pair.into(),
-        false => {
+    match random.below(8) {
+        0 => sample(random).pair.into(),
+        1 => sources::table(random).into(),
+        _ => {
             let records = random.below(GROWN);
             grow::tree(random, records).into()
         }
@@ -167,10 +176,7 @@ fn noise(random: &mut Random) -> Case {
         false => random.below(NOISE) * SIZE,
     };
     let text = random.below(NOISE);
-    Case {
-        tree: random.bytes(tree),
-        text: random.bytes(text),
-    }
+    Case::from((random.bytes(tree), random.bytes(text)))
 }
 
 /// Good marks and small numbers, tokens more often than the rest.
@@ -188,7 +194,7 @@ fn records(random: &mut Random) -> Case {
         tree.extend(record.bytes());
     }
     let text = "aé-".as_bytes().to_vec();
-    Case { tree, text }
+    Case::from((tree, text))
 }
 
 /// A tree of 4,095 to 4,097 records, or a text of 65,535 to 65,537 bytes that is named whole.
@@ -197,7 +203,7 @@ fn limits(random: &mut Random) -> Case {
     if random.one_in(2) {
         let records = random.between(MOST_RECORDS - 1, MOST_RECORDS + 1);
         let tree = of_records(random, records);
-        return Case { tree, text };
+        return Case::from((tree, text));
     }
     let length = random.between(MOST_BYTES - 1, MOST_BYTES + 1);
     filled_to(random, &mut text, length);
@@ -206,5 +212,5 @@ fn limits(random: &mut Random) -> Case {
         Record::part(TOKEN, flags, 0, length as u32).bytes()
     };
     let tree = [Record::new(RUN, 2).bytes(), named(TK_ID), named(TK_COMMA)].concat();
-    Case { tree, text }
+    Case::from((tree, text))
 }

@@ -2,19 +2,30 @@
 
 use crate::guarded::{Fence, Fences, Guarded, SHIFTS};
 #[cfg(feature = "selftest")]
-use crate::trees::stand_in::{kinyandoma_measure, kinyandoma_render};
+use crate::trees::stand_in::{
+    kinyandoma_measure, kinyandoma_measure_with, kinyandoma_render, kinyandoma_render_with,
+};
 use calls::Answer;
 #[cfg(not(feature = "selftest"))]
-use calls::{kinyandoma_measure, kinyandoma_render};
+use calls::{
+    kinyandoma_measure, kinyandoma_measure_with, kinyandoma_render, kinyandoma_render_with,
+};
 use model::damage::Case;
 use model::samples::Judged;
 
 /// The number of an output that is too short.
 const NO_ROOM: u32 = 8;
 
-/// A call of the one or the other.
+/// A call that takes options, with the case's, or one that takes none.
 #[derive(Clone)]
-pub enum Call {
+pub struct Call {
+    pub with_options: bool,
+    pub asked: Asked,
+}
+
+/// What is asked for.
+#[derive(Clone)]
+pub enum Asked {
     Measure,
     /// With what stands in the output before.
     Render(Vec<u8>),
@@ -56,20 +67,24 @@ impl Lent<'_> {
 
     /// What the library makes of it.
     pub fn observed(&mut self, call: &Call) -> Outcome {
-        let before: &[u8] = match call {
-            Call::Measure => &[],
-            Call::Render(before) => before,
-        };
+        let before = call.before();
         let mut output = Guarded::new(before, self.output);
+        let (out, out_len) = (output.start(), before.len());
         let (tree_len, text_len) = (self.case.tree.len(), self.case.text.len());
         let (tree, text) = (self.tree.start(), self.text.start());
+        let options = self.case.options;
         // Sound if the library keeps to the lent parts; the guards tell of small trespasses.
         let packed = unsafe {
-            match call {
-                Call::Measure => kinyandoma_measure(tree, tree_len, text, text_len),
-                Call::Render(_) => {
-                    let (out, out_len) = (output.start(), before.len());
+            match (&call.asked, call.with_options) {
+                (Asked::Measure, false) => kinyandoma_measure(tree, tree_len, text, text_len),
+                (Asked::Measure, true) => {
+                    kinyandoma_measure_with(options, tree, tree_len, text, text_len)
+                }
+                (Asked::Render(_), false) => {
                     kinyandoma_render(tree, tree_len, text, text_len, out, out_len)
+                }
+                (Asked::Render(_), true) => {
+                    kinyandoma_render_with(options, tree, tree_len, text, text_len, out, out_len)
                 }
             }
         };
@@ -87,19 +102,24 @@ impl Lent<'_> {
 }
 
 impl Call {
+    /// What stands in the output before; measure has none.
+    pub fn before(&self) -> &[u8] {
+        match &self.asked {
+            Asked::Measure => &[],
+            Asked::Render(before) => before,
+        }
+    }
+
     /// 8 comes last, and a refusal writes nothing.
     pub fn expected(&self, judged: &Judged) -> Outcome {
-        let before = match self {
-            Call::Measure => vec![],
-            Call::Render(before) => before.clone(),
-        };
-        let (number, place, output) = match (&judged.expected, self) {
+        let before = self.before().to_vec();
+        let (number, place, output) = match (&judged.expected, &self.asked) {
             (Err((number, place)), _) => (*number, *place, before),
-            (Ok(text), Call::Measure) => (0, text.len() as u32, before),
-            (Ok(text), Call::Render(_)) if text.len() > before.len() => {
+            (Ok(text), Asked::Measure) => (0, text.len() as u32, before),
+            (Ok(text), Asked::Render(_)) if text.len() > before.len() => {
                 (NO_ROOM, text.len() as u32, before)
             }
-            (Ok(text), Call::Render(_)) => (0, text.len() as u32, over(before, text.as_bytes())),
+            (Ok(text), Asked::Render(_)) => (0, text.len() as u32, over(before, text.as_bytes())),
         };
         Outcome {
             answer: Answer { number, place },

@@ -1,6 +1,6 @@
 //! Counts of trees, kinds and answers, and the first difference.
 
-use super::call::{Call, Outcome};
+use super::call::{Asked, Call, Outcome};
 use crate::hex::hex;
 use crate::report::{Numbers, ANSWERS};
 use model::damage::Case;
@@ -18,8 +18,9 @@ pub struct Counts {
     /// Admitted trees with a RUN where a kind from 32 up may stand.
     with_runs: u64,
     kinds: BTreeMap<u16, Seen>,
-    measured: Numbers,
-    rendered: Numbers,
+    /// Those without options, and those with them.
+    measured: [Numbers; 2],
+    rendered: [Numbers; 2],
 }
 
 /// A kind in admitted trees.
@@ -58,14 +59,20 @@ impl Counts {
         self.with_runs += u64::from(run_for_kind);
     }
 
-    /// How often each of the two calls gave each answer.
-    pub fn by_call(&self) -> [(&'static str, &Numbers); 2] {
-        [("measure", &self.measured), ("render", &self.rendered)]
+    /// How often each of the four calls gave each answer.
+    pub fn by_call(&self) -> Vec<(&'static str, &Numbers)> {
+        let ([measure, measure_with], [render, render_with]) = (&self.measured, &self.rendered);
+        vec![
+            ("measure", measure),
+            ("measure_with", measure_with),
+            ("render", render),
+            ("render_with", render_with),
+        ]
     }
 
     /// How many calls were made.
     pub fn calls(&self) -> u64 {
-        self.measured.iter().chain(&self.rendered).sum()
+        self.measured.iter().chain(&self.rendered).flatten().sum()
     }
 
     /// How many trees of each part, and how many kinds stood in admitted ones.
@@ -81,10 +88,11 @@ impl Counts {
 
     /// Counts the answer.
     pub fn call(&mut self, call: &Call, outcome: &Outcome) {
-        let numbers = match call {
-            Call::Measure => &mut self.measured,
-            Call::Render(_) => &mut self.rendered,
+        let numbers = match call.asked {
+            Asked::Measure => &mut self.measured,
+            Asked::Render(_) => &mut self.rendered,
         };
+        let numbers = &mut numbers[usize::from(call.with_options)];
         numbers[outcome.answer.number as usize] += 1;
     }
 }
@@ -158,14 +166,19 @@ pub fn told(number: u64) -> String {
 
 impl fmt::Display for Difference {
     fn fmt(&self, f: &mut fmt::Formatter<'_>) -> fmt::Result {
-        let call = match &self.call {
-            Call::Measure => "measure".to_string(),
-            Call::Render(before) => format!("render with room for {}", before.len()),
+        let before = self.call.before();
+        let call = match &self.call.asked {
+            Asked::Measure => "measure".to_string(),
+            Asked::Render(_) => format!("render with room for {}", before.len()),
         };
-        writeln!(f, "difference in {}: {call}", self.part)?;
+        let options = match self.call.with_options {
+            true => format!(", options {:#x}", self.case.options),
+            false => String::new(),
+        };
+        writeln!(f, "difference in {}: {call}{options}", self.part)?;
         writeln!(f, "tree {}", hex(&self.case.tree))?;
         writeln!(f, "text {}", hex(&self.case.text))?;
-        if let Call::Render(before) = &self.call {
+        if let Asked::Render(_) = &self.call.asked {
             writeln!(f, "before {}", hex(before))?;
         }
         writeln!(f, "expected\n{}", self.expected)?;

@@ -1,5 +1,6 @@
-//! Small kinyandoma_measure and kinyandoma_render in Rust, by the entries of the definition, with faults that can be
-//! planted in them.
+//! Small calls to measure and render in Rust, by the entries of the definition, with faults that can be planted in them.
+
+mod strict;
 
 use crate::faults::{planted, Fault};
 use crate::fuzz::SOURCES;
@@ -21,8 +22,8 @@ use turso_parser::token::TokenType::TK_COMMA;
 static GRAMMAR: LazyLock<RwLock<Grammar>> =
     LazyLock::new(|| RwLock::new(read(SOURCES).expect("entries that can be read")));
 
-/// The answer for a tree that faulty entries cannot write.
-const BROKEN: Refusal = (9, 0);
+/// The answer for a tree that faulty entries cannot write: no call has it.
+const BROKEN: Refusal = (99, 0);
 /// The most digits of a number.
 const MOST_DIGITS: u32 = 19;
 /// A shift of the number above the place.
@@ -36,11 +37,40 @@ pub unsafe extern "C" fn kinyandoma_measure(
     text: *const u8,
     text_len: usize,
 ) -> u64 {
+    kinyandoma_measure_with(0, tree, tree_len, text, text_len)
+}
+
+/// # Safety
+/// The three parts must be valid for their lengths.
+pub unsafe extern "C" fn kinyandoma_render(
+    tree: *const u8,
+    tree_len: usize,
+    text: *const u8,
+    text_len: usize,
+    out: *mut u8,
+    out_len: usize,
+) -> u64 {
+    kinyandoma_render_with(0, tree, tree_len, text, text_len, out, out_len)
+}
+
+/// # Safety
+/// The two parts must be valid for their lengths.
+pub unsafe extern "C" fn kinyandoma_measure_with(
+    options: u32,
+    tree: *const u8,
+    tree_len: usize,
+    text: *const u8,
+    text_len: usize,
+) -> u64 {
     let (tree, text) = (
         from_raw_parts(tree, tree_len),
         from_raw_parts(text, text_len),
     );
-    let length = rendered(tree, text).map(|bytes| bytes.len() as u32);
+    let options = match planted(Fault::SwitchInRenderOnly) {
+        true => 0,
+        false => options,
+    };
+    let length = rendered(options, tree, text).map(|bytes| bytes.len() as u32);
     packed(match length {
         Ok(length) => (0, length + u32::from(planted(Fault::LengthOneMore))),
         Err(refusal) => refusal,
@@ -49,7 +79,8 @@ pub unsafe extern "C" fn kinyandoma_measure(
 
 /// # Safety
 /// The three parts must be valid for their lengths.
-pub unsafe extern "C" fn kinyandoma_render(
+pub unsafe extern "C" fn kinyandoma_render_with(
+    options: u32,
     tree: *const u8,
     tree_len: usize,
     text: *const u8,
@@ -66,15 +97,15 @@ pub unsafe extern "C" fn kinyandoma_render(
     );
     // One byte more is lent than the caller said, for the faults that write it.
     let out = from_raw_parts_mut(out, out_len + 1);
-    packed(render(tree, text, out, out_len))
+    packed(render(options, tree, text, out, out_len))
 }
 
 fn packed((number, place): Refusal) -> u64 {
     (u64::from(number) << NUMBER_AT) + u64::from(place)
 }
 
-fn render(tree: &[u8], text: &[u8], out: &mut [u8], room: usize) -> Refusal {
-    let bytes = match rendered(tree, text) {
+fn render(options: u32, tree: &[u8], text: &[u8], out: &mut [u8], room: usize) -> Refusal {
+    let bytes = match rendered(options, tree, text) {
         Ok(bytes) => bytes,
         Err(refusal) => {
             spoil(Fault::RefusedTreeWrites, &mut out[..room]);
@@ -110,8 +141,8 @@ fn spoil(fault: Fault, out: &mut [u8]) {
     }
 }
 
-fn rendered(tree: &[u8], text: &[u8]) -> Result<Vec<u8>, Refusal> {
-    match refusal(tree, text) {
+fn rendered(options: u32, tree: &[u8], text: &[u8]) -> Result<Vec<u8>, Refusal> {
+    match strict::refusal(options, tree, text, refusal(tree, text)) {
         (0, _) => {}
         refusal => return Err(refusal),
     }

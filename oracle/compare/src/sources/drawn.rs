@@ -1,0 +1,215 @@
+//! Trees with CHECK sources, good ones and such with faults before a source, at it and behind it.
+
+use model::damage::{damage, Case};
+use model::grammar::{KINDS, LIST, NONE, NUMBER, REPLACE, RUN};
+use model::record::{Record, SIZE};
+use model::samples::sample;
+use model::{grow, options, sources};
+use tokens::random::Random;
+
+/// Most records of a grown tree, about.
+const GROWN: usize = 60;
+/// Most elements of a LIST.
+const ELEMENTS: usize = 4;
+/// The depths of a chain beside CHECKs.
+const SHALLOW: usize = 62;
+const DEEP: usize = 66;
+
+/// What makes a record 3 or 4, whatever it is.
+const FAULTS: [fn(&mut Record); 4] = [
+    |record| record.mark = [0x4E, 0x53],
+    |record| record.kind = 200,
+    |record| record.flags = 1 << 12,
+    |record| record.children ^= 1 << 9,
+];
+/// What makes a source 3, 4 or 5.
+const AT_SOURCE: [fn(&mut Record); 8] = [
+    |record| record.mark[0] = 0,
+    |record| record.kind = NUMBER,
+    |record| record.flags = 1,
+    |record| record.children = 1,
+    |record| record.length += 1 << 17,
+    |record| record.start += 1 << 17,
+    |record| record.start = u32::MAX,
+    |record| record.length = u32::MAX,
+];
+
+/// A case with any options, and in a few words what it is.
+pub fn drawn(random: &mut Random) -> (&'static str, Case) {
+    let (part, case) = tree(random);
+    (part, case.with(options::any(random)))
+}
+
+/// The same without options.
+pub fn tree(random: &mut Random) -> (&'static str, Case) {
+    let mut case = with_source(random);
+    match random.below(12) {
+        0..=3 => ("good trees", good(random)),
+        4 => {
+            at_a_source(random, &mut case);
+            ("a fault at a source", case)
+        }
+        5 => {
+            inside_a_character(random, &mut case);
+            ("a source that ends inside a character", case)
+        }
+        6 | 7 => {
+            beside_a_source(random, &mut case);
+            ("a fault before or behind a source", case)
+        }
+        8 => {
+            let records = random.between(1, case.records());
+            case.tree.truncate(records * SIZE);
+            ("records missing", case)
+        }
+        9 => {
+            case.tree.extend(Record::new(NONE, 0).bytes());
+            ("records left over", case)
+        }
+        10 => ("beside a chain of 62 to 66 records", beside_a_chain(random)),
+        _ => {
+            for _ in 0..random.between(1, 3) {
+                damage(random, &mut case);
+            }
+            ("damaged", case)
+        }
+    }
+}
+
+/// A good tree that has a place for a source at least.
+fn with_source(random: &mut Random) -> Case {
+    loop {
+        let case = good(random);
+        if !sources::places(&case.tree).is_empty() {
+            return case;
+        }
+    }
+}
+
+/// A tree with sources mostly.
+fn good(random: &mut Random) -> Case {
+    match random.below(8) {
+        0 => sources::check(random).into(),
+        1..=4 => sources::table(random).into(),
+        5 => listed(random),
+        _ => generated(random),
+    }
+}
+
+/// From the other comparisons' generators, with other sources, or with what looks like a source in every TEXT.
+fn generated(random: &mut Random) -> Case {
+    let mut case = match random.below(3) {
+        0 => sample(random).pair.into(),
+        1 => {
+            let kinds = KINDS.iter().map(|kind| kind.number);
+            let roots: Vec<u16> = kinds.filter(|&kind| kind != REPLACE).collect();
+            let root = random.pick(&roots);
+            Case::from(grow::fullest(random, root))
+        }
+        _ => {
+            let records = random.below(GROWN);
+            Case::from(grow::tree(random, records))
+        }
+    };
+    match random.one_in(2) {
+        true => sources::exchange(random, &mut case),
+        false => sources::exchange_all(random, &mut case),
+    }
+    case
+}
+
+/// Tables, CHECKs and RUNs in a LIST.
+fn listed(random: &mut Random) -> Case {
+    let count = random.between(1, ELEMENTS);
+    let elements = (0..count).map(|_| match random.below(3) {
+        0 => sources::check(random).into(),
+        1 => element(sources::table(random).into()),
+        _ => Case::from((Record::new(RUN, 0).bytes().to_vec(), vec![])),
+    });
+    let elements: Vec<Case> = elements.collect();
+    joined(&elements)
+}
+
+/// What a root LIST may hold of a tree: no Cmd, but its statement.
+fn element(mut case: Case) -> Case {
+    if Record::read(&case.tree, 0).is_some_and(|root| root.kind == 10) {
+        case.tree.drain(..SIZE);
+    }
+    case
+}
+
+/// A LIST of trees. Each names its own part of the text still.
+fn joined(cases: &[Case]) -> Case {
+    let mut whole = Case::from((
+        Record::new(LIST, cases.len() as u16).bytes().to_vec(),
+        vec![],
+    ));
+    for case in cases {
+        let mut moved = case.clone();
+        let by = whole.text.len() as u32;
+        for index in 0..moved.records() {
+            moved.edit(index, |record| {
+                let named = matches!(record.kind, 2 | 4) && (record.start, record.length) != (0, 0);
+                record.start += if named { by } else { 0 };
+            });
+        }
+        whole.tree.extend(moved.tree);
+        whole.text.extend(moved.text);
+    }
+    whole
+}
+
+/// A table before a chain of records, or behind it: the only way to have 6 beside a source, which is never deep itself.
+fn beside_a_chain(random: &mut Random) -> Case {
+    let table = element(sources::table(random).into());
+    let depth = random.between(SHALLOW, DEEP);
+    let chain = chain(depth - 1);
+    match random.one_in(2) {
+        true => joined(&[table, chain]),
+        false => joined(&[chain, table]),
+    }
+}
+
+/// FROM clauses (85) in brackets (90), so many records below one another.
+fn chain(depth: usize) -> Case {
+    let kinds = [85, 90];
+    let behind = [LIST, NONE];
+    let mut records: Vec<Record> = (1..depth)
+        .map(|level| Record::new(kinds[(level + 1) % 2], 2))
+        .collect();
+    records.push(Record::new(RUN, 0));
+    records.extend(
+        (1..depth)
+            .rev()
+            .map(|level| Record::new(behind[(level + 1) % 2], 0)),
+    );
+    model::fixed::of(&records, &[])
+}
+
+/// One of the tree's sources.
+fn a_source(random: &mut Random, case: &Case) -> usize {
+    random.pick(&sources::places(&case.tree))
+}
+
+fn at_a_source(random: &mut Random, case: &mut Case) {
+    let place = a_source(random, case);
+    sources::put(case, place, &sources::any(random));
+    case.edit(place, random.pick(&AT_SOURCE));
+}
+
+/// The last character is a wide one, and the part is a byte short of it.
+fn inside_a_character(random: &mut Random, case: &mut Case) {
+    let place = a_source(random, case);
+    let source = sources::any(random) + random.pick(&["\u{E9}", "\u{20AC}"]);
+    sources::put(case, place, &source);
+    case.edit(place, |record| record.length -= 1);
+}
+
+/// At the record before a source or behind it, or at any record.
+fn beside_a_source(random: &mut Random, case: &mut Case) {
+    let place = a_source(random, case);
+    let last = case.records() - 1;
+    let any = random.between(0, last);
+    let at = random.pick(&[place - 1, (place + 1).min(last), any]);
+    case.edit(at, random.pick(&FAULTS));
+}
