@@ -24,9 +24,11 @@
  *                                                                                       left-over index
  *   8       out is shorter than needed                                                  length needed;
  *                                                                                       append: bytes this token adds
+ *   9       with KINYANDOMA_STRICT: the source of a CHECK ends inside a block           record of the source
+ *           comment or inside a quote
  *   12      the text or value is cut off: it ends in the middle of a character          first byte of that character
  *
- * The first that fits is answered. For a tree: 1, 2 or 12, then the records by index, and at each 3, 4, 5, 6; then 7;
+ * The first that fits is answered. For a tree: 1, 2 or 12, then the records by index, and at each 3, 4, 5, 9, 6; then 7;
  * then 8. For append: 1, 4, 2 or 12, 8. A place never exceeds 32 bits.
  *
  * Of a text that is not UTF-8, 12 says that more bytes could have made it UTF-8 and 2 that none could: the bytes from
@@ -51,6 +53,24 @@ uint64_t kinyandoma_measure(const uint8_t *tree, size_t tree_len, const uint8_t 
  * and those behind them are as they were; room for exactly the length is enough. On a refusal out is as it was. */
 uint64_t kinyandoma_render(const uint8_t *tree, size_t tree_len, const uint8_t *text, size_t text_len, uint8_t *out,
                            size_t out_len);
+
+/* Options of kinyandoma_measure_with and kinyandoma_render_with: flags, joined with `|`. Other bits are ignored. With 0 the
+ * two answer and write as kinyandoma_measure and kinyandoma_render do. */
+
+/* Refuse, with 9, a CHECK whose source would swallow the bracket behind it: a TEXT in a Check (103) that ends inside a block
+ * comment or inside a quote. One that ends inside a line comment is written, since a newline is written behind it. A source
+ * is read from its first byte. Outside quotes and comments, slash and star begin a block comment, two hyphens a line
+ * comment, and each of ' " ` a quote. A block comment ends at the first star and slash behind the two bytes that began it, a
+ * line comment at a newline (0A), a quote at the next one like it. */
+#define KINYANDOMA_STRICT 1u
+
+/* As kinyandoma_measure, with options. */
+uint64_t kinyandoma_measure_with(uint32_t options, const uint8_t *tree, size_t tree_len, const uint8_t *text,
+                                 size_t text_len);
+
+/* As kinyandoma_render, with options. */
+uint64_t kinyandoma_render_with(uint32_t options, const uint8_t *tree, size_t tree_len, const uint8_t *text,
+                                size_t text_len, uint8_t *out, size_t out_len);
 
 /* The bytes of a stream record. All numbers in it are little-endian.
  *

@@ -1,8 +1,8 @@
-/* Calls the three functions of libkinyandoma.a on good and bad input, as a C program does.
+/* Calls the functions of libkinyandoma.a on good and bad input, as a C program does.
  *
  * What is expected is document 01's: section 6 for the cases, section 3 for the numbers and places; 12 is document 02's,
- * request ii, and line and column are its request ix. Around every lent part stand known bytes, which must stay. One line a
- * case, and `N passed, M failed` at the end. */
+ * request ii, 9 its request vii, and line and column are its request ix. Around every lent part stand known bytes, which must
+ * stay. One line a case, and `N passed, M failed` at the end. */
 #include "kinyandoma.h"
 
 #include <stdio.h>
@@ -254,12 +254,17 @@ static void refused_append(const append_case *c) {
 static const uint8_t GOOD[] = {CMD, DROP_TYPE, GEO};
 static const char WRITTEN[] = "DROP TYPE IF EXISTS geo;";
 
-/* CHECK (103) with an empty RUN and the source `a--b`. */
-static const uint8_t CHECK[] = {0x53, 0x4E, 103,  0, 0, 0, 2, 0, 0, 0, 0, 0, 0, 0, 0, 0, /* two slots */
-                                0x53, 0x4E, 0x03, 0, 0, 0, 0, 0, 0, 0, 0, 0, 0, 0, 0, 0, /* RUN */
-                                0x53, 0x4E, 0x04, 0, 0, 0, 0, 0, 0, 0, 0, 0, 4, 0, 0, 0 /* TEXT */};
+/* CHECK (103) with an empty RUN, and as its source the first `length` bytes of the text. */
+#define CHECK_OF(length) \
+    0x53, 0x4E, 103, 0, 0, 0, 2, 0, 0, 0, 0, 0, 0, 0, 0, 0, /* two slots */ \
+    0x53, 0x4E, 0x03, 0, 0, 0, 0, 0, 0, 0, 0, 0, 0, 0, 0, 0, /* RUN */ \
+    0x53, 0x4E, 0x04, 0, 0, 0, 0, 0, 0, 0, 0, 0, length, 0, 0, 0 /* TEXT */
 
-static const uint8_t WRONG_MARK[] = {CMD, 0x53, 0x4F, 0x3D, 0, 1, 0, 1, 0, 0, 0, 0, 0, 0, 0, 0, 0, GEO};
+static const uint8_t CHECK[] = {CHECK_OF(4)};
+
+#define WRONG_MARK_DROP 0x53, 0x4F, 0x3D, 0, 1, 0, 1, 0, 0, 0, 0, 0, 0, 0, 0, 0, GEO
+
+static const uint8_t WRONG_MARK[] = {CMD, WRONG_MARK_DROP};
 static const uint8_t WRONG_KIND[] = {CMD, GEO};
 static const uint8_t WRONG_FLAG[] = {CMD, 0x53, 0x4E, 0x3D, 0, 2, 0, 1, 0, 0, 0, 0, 0, 0, 0, 0, 0, GEO};
 static const uint8_t WRONG_COUNT[] = {CMD, 0x53, 0x4E, 0x3D, 0, 1, 0, 2, 0, 0, 0, 0, 0, 0, 0, 0, 0, GEO, GEO};
@@ -304,24 +309,61 @@ static const tree_case TREES[] = {
     {"tree: a record left over is 7", LEFT_OVER, 64, BYTES("geo"), 7, 3},
 };
 
-/* Measure and render both refuse, and nothing is written. */
+/* Measure and render both refuse, without options and with any, and nothing is written. */
 static void refused_tree(const tree_case *c) {
+    static const uint32_t options[] = {0, KINYANDOMA_STRICT, ~0u};
     lent out;
     prepare(&out);
     uint64_t expected = answer(c->number, c->place);
     uint64_t measured = kinyandoma_measure(c->tree, c->tree_length, c->text, c->text_length);
     uint64_t rendered =
         kinyandoma_render(c->tree, c->tree_length, c->text, c->text_length, out.bytes + GUARD, ROOM);
-    tell(c->name, measured == expected && rendered == expected && holds(&out, "", 0));
+    int done = measured == expected && rendered == expected;
+    for (size_t at = 0; at < sizeof options / sizeof options[0]; at++) {
+        measured = kinyandoma_measure_with(options[at], c->tree, c->tree_length, c->text, c->text_length);
+        rendered = kinyandoma_render_with(options[at], c->tree, c->tree_length, c->text, c->text_length,
+                                          out.bytes + GUARD, ROOM);
+        done &= measured == expected && rendered == expected;
+    }
+    tell(c->name, done && holds(&out, "", 0));
 }
 
-/* A good tree: measured, and rendered with just the room, with more, with one byte less and with none. */
+/* A text that is to be written, with these options. */
+typedef struct {
+    uint32_t options;
+    const uint8_t *tree;
+    size_t tree_length;
+    const uint8_t *text;
+    size_t text_length;
+    const char *expected;
+} written_case;
+
+/* Measured, and rendered with just the room, with more, with one byte less and with none. */
+static int is_written(const written_case *c) {
+    uint32_t length = (uint32_t)strlen(c->expected);
+    const size_t rooms[] = {length, ROOM, length - 1, 0};
+    int done = kinyandoma_measure_with(c->options, c->tree, c->tree_length, c->text, c->text_length) == answer(0, length);
+    for (size_t at = 0; at < sizeof rooms / sizeof rooms[0]; at++) {
+        lent out;
+        prepare(&out);
+        int fits = rooms[at] >= length;
+        uint64_t given = kinyandoma_render_with(c->options, c->tree, c->tree_length, c->text, c->text_length,
+                                                out.bytes + GUARD, rooms[at]);
+        done &= given == answer(fits ? 0 : 8, length) && holds(&out, c->expected, fits ? length : 0);
+    }
+    return done;
+}
+
+/* A good tree, which every option admits: by the calls without options, too. */
 static void written_tree(const char *name, const uint8_t *tree, size_t tree_length, const char *text,
                          const char *expected) {
     size_t length = strlen(expected);
     const size_t rooms[] = {length, ROOM, length - 1, 0};
     const uint8_t *bytes = (const uint8_t *)text;
-    int done = kinyandoma_measure(tree, tree_length, bytes, strlen(text)) == answer(0, (uint32_t)length);
+    const written_case without = {0, tree, tree_length, bytes, strlen(text), expected};
+    const written_case with = {KINYANDOMA_STRICT, tree, tree_length, bytes, strlen(text), expected};
+    int done = is_written(&without) && is_written(&with);
+    done &= kinyandoma_measure(tree, tree_length, bytes, strlen(text)) == answer(0, (uint32_t)length);
     for (size_t at = 0; at < sizeof rooms / sizeof rooms[0]; at++) {
         lent out;
         prepare(&out);
@@ -330,6 +372,94 @@ static void written_tree(const char *name, const uint8_t *tree, size_t tree_leng
         done &= given == answer(fits ? 0 : 8, (uint32_t)length) && holds(&out, expected, fits ? length : 0);
     }
     tell(name, done);
+}
+
+/* ---- CHECK sources that are left open: document 02, request vii */
+
+typedef struct {
+    const char *name;
+    const char *source;
+    const char *written; /* with the switch off */
+    int open;            /* whether it is refused with the switch on */
+} source_case;
+
+static const source_case SOURCES[] = {
+    {"source: empty", "", "CHECK ()", 0},
+    {"source: a block comment", "a/*b*/", "CHECK (a/*b*/)", 0},
+    {"source: a block comment left open", "a/*b", "CHECK (a/*b)", 1},
+    {"source: the two opening bytes do not end it", "/*/", "CHECK (/*/)", 1},
+    {"source: the next two do", "/**/", "CHECK (/**/)", 0},
+    {"source: the first end counts", "/*/**/", "CHECK (/*/**/)", 0},
+    {"source: a star at the end", "/* *", "CHECK (/* *)", 1},
+    {"source: a line comment", "a--b", "CHECK (a--b \n)", 0},
+    {"source: a quote in a line comment", "--'", "CHECK (--' \n)", 0},
+    {"source: a block comment in a line comment", "--/*", "CHECK (--/* \n)", 0},
+    {"source: a newline ends a line comment", "--\n'", "CHECK (--\n' \n)", 1},
+    {"source: 0D does not", "--\r'", "CHECK (--\r' \n)", 0},
+    {"source: a quote in a block comment", "/*'*/", "CHECK (/*'*/)", 0},
+    {"source: a line comment in a block comment", "/*--\n", "CHECK (/*--\n \n)", 1},
+    {"source: '", "'a", "CHECK ('a)", 1},
+    {"source: \"", "\"a", "CHECK (\"a)", 1},
+    {"source: `", "`a", "CHECK (`a)", 1},
+    {"source: a quote that ends", "'a'", "CHECK ('a')", 0},
+    {"source: a quote that is doubled", "'a''", "CHECK ('a'')", 1},
+    {"source: a doubled one in a quote that ends", "'a''b'", "CHECK ('a''b')", 0},
+    {"source: another quote in a quote", "'\"'", "CHECK ('\"')", 0},
+    {"source: a block comment in a quote", "'/*'", "CHECK ('/*')", 0},
+    {"source: a line comment in a quote", "'--\n", "CHECK ('--\n \n)", 1},
+};
+
+/* The source of a Check, with the switch off and on, each alone and with bits that mean nothing. */
+static void source(const source_case *c) {
+    static const uint32_t bits[] = {0, 1u << 8, 1u << 31, ~1u};
+    const uint8_t tree[] = {CHECK_OF((uint8_t)strlen(c->source))};
+    const uint8_t *text = (const uint8_t *)c->source;
+    int done = 1;
+    for (size_t at = 0; at < sizeof bits / sizeof bits[0]; at++) {
+        uint32_t on = bits[at] | KINYANDOMA_STRICT;
+        const written_case off = {bits[at], tree, sizeof tree, text, strlen(c->source), c->written};
+        const written_case admitted = {on, tree, sizeof tree, text, strlen(c->source), c->written};
+        lent out;
+        prepare(&out);
+        done &= is_written(&off);
+        if (!c->open) {
+            done &= is_written(&admitted);
+            continue;
+        }
+        done &= kinyandoma_measure_with(on, tree, sizeof tree, text, strlen(c->source)) == answer(9, 2);
+        done &= kinyandoma_render_with(on, tree, sizeof tree, text, strlen(c->source), out.bytes + GUARD, ROOM) ==
+                answer(9, 2);
+        done &= holds(&out, "", 0);
+    }
+    tell(c->name, done);
+}
+
+/* A LIST of two. */
+#define LIST_OF_TWO 0x53, 0x4E, 0x01, 0, 0, 0, 2, 0, 0, 0, 0, 0, 0, 0, 0, 0
+/* DROP TYPE with the first two bytes as its name. */
+#define DROP_OPEN DROP_TYPE, 0x53, 0x4E, 0x04, 0, 0, 0, 0, 0, 0, 0, 0, 0, 2, 0, 0, 0
+
+static const uint8_t TWO_CHECKS[] = {LIST_OF_TWO, CHECK_OF(1), CHECK_OF(2)};
+static const uint8_t CHECK_LAST[] = {LIST_OF_TWO, DROP_OPEN, CHECK_OF(3)};
+static const uint8_t CHECK_FIRST[] = {LIST_OF_TWO, CHECK_OF(2), WRONG_MARK_DROP};
+static const uint8_t OTHER_TEXT[] = {DROP_OPEN};
+
+/* Of an open source and another fault, and which text is looked at, with the switch on. */
+static const tree_case STRICT[] = {
+    {"strict: the first open source is the place", TWO_CHECKS, sizeof TWO_CHECKS, BYTES("a'"), 9, 6},
+    {"strict: other texts are not looked at", OTHER_TEXT, sizeof OTHER_TEXT, BYTES("a'"), 0, 22},
+    {"strict: 5 comes before 9 at a record", CHECK, sizeof CHECK, BYTES("'ab"), 5, 2},
+    {"strict: 5 of an earlier record comes before 9", CHECK_LAST, sizeof CHECK_LAST, BYTES("'"), 5, 2},
+    {"strict: 9 comes before 3 of a later record", CHECK_FIRST, sizeof CHECK_FIRST, BYTES("a'"), 9, 3},
+    {"strict: 9 comes before 7", CHECK_FIRST, 4 * 16, BYTES("a'"), 9, 3},
+    {"strict: 2 comes before 9", CHECK, sizeof CHECK, BYTES("'ab\xFF"), 2, 3},
+    {"strict: 12 comes before 9", CHECK, sizeof CHECK, BYTES("'ab\xC3"), 12, 3},
+};
+
+static void strict_tree(const tree_case *c) {
+    uint64_t measured =
+        kinyandoma_measure_with(KINYANDOMA_STRICT, c->tree, c->tree_length, c->text, c->text_length);
+    tell(c->name, measured == answer(c->number, c->place));
 }
 
 /* One record with no part, flags or number. */
@@ -392,6 +522,12 @@ int main(void) {
         refused_tree(&TREES[at]);
     }
     depths();
+    for (size_t at = 0; at < sizeof SOURCES / sizeof SOURCES[0]; at++) {
+        source(&SOURCES[at]);
+    }
+    for (size_t at = 0; at < sizeof STRICT / sizeof STRICT[0]; at++) {
+        strict_tree(&STRICT[at]);
+    }
     printf("%d passed, %d failed\n", passed, failed);
     return failed != 0;
 }

@@ -18,6 +18,22 @@ extern "C" {
         out: *mut u8,
         out_len: usize,
     ) -> u64;
+    fn kinyandoma_measure_with(
+        options: u32,
+        tree: *const u8,
+        tree_len: usize,
+        text: *const u8,
+        text_len: usize,
+    ) -> u64;
+    fn kinyandoma_render_with(
+        options: u32,
+        tree: *const u8,
+        tree_len: usize,
+        text: *const u8,
+        text_len: usize,
+        out: *mut u8,
+        out_len: usize,
+    ) -> u64;
     fn kinyandoma_append(
         record: *mut u8,
         record_len: usize,
@@ -62,6 +78,38 @@ pub fn render(tree: &[u8], text: &[u8], out: &mut [u8]) -> Answer {
     // Safe: the slices are valid for their lengths, and `out` is ours alone.
     let packed = unsafe {
         kinyandoma_render(
+            tree.as_ptr(),
+            tree.len(),
+            text.as_ptr(),
+            text.len(),
+            out.as_mut_ptr(),
+            out.len(),
+        )
+    };
+    Answer::unpacked(packed)
+}
+
+/// How long the text of a tree is, by a call with options.
+pub fn measure_with(options: u32, tree: &[u8], text: &[u8]) -> Answer {
+    // Safe: both slices are valid for their lengths.
+    let packed = unsafe {
+        kinyandoma_measure_with(
+            options,
+            tree.as_ptr(),
+            tree.len(),
+            text.as_ptr(),
+            text.len(),
+        )
+    };
+    Answer::unpacked(packed)
+}
+
+/// The text of a tree, written to `out` by a call with options.
+pub fn render_with(options: u32, tree: &[u8], text: &[u8], out: &mut [u8]) -> Answer {
+    // Safe: the slices are valid for their lengths, and `out` is ours alone.
+    let packed = unsafe {
+        kinyandoma_render_with(
+            options,
             tree.as_ptr(),
             tree.len(),
             text.as_ptr(),

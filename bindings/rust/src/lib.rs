@@ -20,13 +20,15 @@
 //! ```
 //!
 //! A host that has tokens already writes them with a [`Stream`]. What a call refuses comes back as a [`Refusal`], with
-//! number and place; nothing is written then.
+//! number and place; nothing is written then. [`Options`] let a caller have more refused, by the calls whose names end
+//! in `_with`.
 
 #![warn(missing_docs)]
 #![forbid(unsafe_op_in_unsafe_fn)]
 
 mod calls;
 mod kind;
+mod options;
 mod refusal;
 mod stream;
 mod token;
@@ -37,6 +39,7 @@ pub use kind::{
     Flag, Kind, EXPLAIN, EXPLAIN_QUERY_PLAN, EXPLAIN_QUERY_PLAN_JSON, MATERIALIZED,
     NOT_MATERIALIZED,
 };
+pub use options::Options;
 pub use refusal::{Reason, Refusal, MOST_BYTES};
 pub use stream::Stream;
 pub use token::Token;
@@ -100,6 +103,68 @@ pub fn render_to_vec(tree: &[u8], text: &[u8]) -> Result<Vec<u8>, Refusal> {
 /// # Panics
 /// Never: whole characters of UTF-8 are all that a tree's text is made of.
 pub fn render_to_string(tree: &[u8], text: &[u8]) -> Result<String, Refusal> {
-    let bytes = render_to_vec(tree, text)?;
-    Ok(String::from_utf8(bytes).expect("whole characters of UTF-8"))
+    Ok(string(render_to_vec(tree, text)?))
+}
+
+/// As [`measure`], with options.
+///
+/// ```
+/// use kinyandoma::{id, measure, measure_with, Options};
+///
+/// let (tree, text) = id("readings").finish()?;
+/// assert_eq!(measure_with(Options::new(), &tree, &text), measure(&tree, &text));
+/// # Ok::<(), Box<dyn std::error::Error>>(())
+/// ```
+pub fn measure_with(options: Options, tree: &[u8], text: &[u8]) -> Result<usize, Refusal> {
+    settled(Asked::Tree, calls::measure_with(options.bits(), tree, text))
+}
+
+/// As [`render`], with options.
+///
+/// ```
+/// use kinyandoma::{render_with, Kind, Node, Options, Run};
+///
+/// let check = Node::new(Kind::Check).child(Run::new()).text("note <> '");
+/// let (tree, text) = check.finish()?;
+/// let mut out = [0; 17];
+/// assert!(render_with(Options::new().strict(true), &tree, &text, &mut out).is_err());
+/// assert_eq!(out, [0; 17]);
+/// assert_eq!(render_with(Options::new(), &tree, &text, &mut out)?, 17);
+/// assert_eq!(&out, b"CHECK (note <> ')");
+/// # Ok::<(), Box<dyn std::error::Error>>(())
+/// ```
+pub fn render_with(
+    options: Options,
+    tree: &[u8],
+    text: &[u8],
+    out: &mut [u8],
+) -> Result<usize, Refusal> {
+    settled(
+        Asked::Tree,
+        calls::render_with(options.bits(), tree, text, out),
+    )
+}
+
+/// As [`render_to_vec`], with options.
+pub fn render_to_vec_with(options: Options, tree: &[u8], text: &[u8]) -> Result<Vec<u8>, Refusal> {
+    let mut out = vec![0; measure_with(options, tree, text)?];
+    render_with(options, tree, text, &mut out)?;
+    Ok(out)
+}
+
+/// As [`render_to_string`], with options.
+///
+/// # Panics
+/// Never, as [`render_to_string`].
+pub fn render_to_string_with(
+    options: Options,
+    tree: &[u8],
+    text: &[u8],
+) -> Result<String, Refusal> {
+    Ok(string(render_to_vec_with(options, tree, text)?))
+}
+
+/// What a call has written.
+fn string(bytes: Vec<u8>) -> String {
+    String::from_utf8(bytes).expect("whole characters of UTF-8")
 }

@@ -35,7 +35,7 @@ pub const MOST_BYTES: usize = 65_536;
 #[derive(Clone, Copy, Debug, PartialEq, Eq)]
 #[non_exhaustive]
 pub struct Refusal {
-    /// 1 to 8 or 12, as include/kinyandoma.h lists them.
+    /// 1 to 9 or 12, as include/kinyandoma.h lists them.
     pub number: u32,
     /// A record's index, a byte of the text, or the length that is needed: the reason tells which.
     pub place: usize,
@@ -73,6 +73,9 @@ pub enum Reason {
     RecordCount,
     /// 8: the output is too short; the place is the length that is needed.
     NoRoom,
+    /// 9, with [`Options::strict`](crate::Options::strict): the CHECK source that the record at the place names ends inside
+    /// a block comment or inside a quote.
+    OpenSource,
 }
 
 /// Which sort of call was made: the numbers 1 and 4 mean something else in an append.
@@ -109,6 +112,7 @@ fn reason(asked: Asked, number: u32, place: usize) -> Reason {
         (6, _) => Reason::TooDeep,
         (7, _) => Reason::RecordCount,
         (8, _) => Reason::NoRoom,
+        (9, _) => Reason::OpenSource,
         (12, _) => Reason::CutOff,
         (number, _) => {
             panic!("libkinyandoma.a answers {number}: it is not the library of this crate")
@@ -171,6 +175,10 @@ impl Reason {
                 "mend the child counts",
             ),
             Reason::NoRoom => ("the output is too short", "this needs room for {place} bytes"),
+            Reason::OpenSource => (
+                "the CHECK source of record {place} ends inside a block comment or a quote",
+                "close it: it would swallow the bracket behind it",
+            ),
         }
     }
 }

@@ -1,7 +1,10 @@
-//! The cases of document 01, section 6, the refusals of section 3 that a caller of this crate can meet, and line and column
-//! of document 02, request ix.
+//! The cases of document 01, section 6, the refusals of section 3 that a caller of this crate can meet, and of document 02
+//! line and column, request ix, and CHECK sources that are left open, request vii.
 
-use kinyandoma::{measure, render, render_to_string, Kind, Node, Reason, Run, Stream, Token};
+use kinyandoma::{
+    measure, measure_with, render, render_to_string, render_to_string_with, render_with, Kind,
+    Node, Options, Reason, Run, Stream, Token,
+};
 
 type Given = (Token, Option<&'static str>);
 
@@ -170,6 +173,68 @@ fn a_check_whose_source_has_a_comment() {
         render_to_string(&tree, &text).as_deref(),
         Ok("CHECK (a--b \n)")
     );
+}
+
+/// A Check with this source.
+fn check(source: &str) -> (Vec<u8>, Vec<u8>) {
+    let check = Node::new(Kind::Check).child(Run::new()).text(source);
+    check.finish().unwrap()
+}
+
+/// Request vii: what would swallow the bracket is refused with the switch on, and written with it off.
+#[test]
+fn an_open_source_is_9_with_the_switch_on() {
+    let strict = Options::new().strict(true);
+    for source in [
+        "/*", "/*/", "a /* b", "'", "'a''", "\"", "`", "--\n'", "/**/'",
+    ] {
+        let (tree, text) = check(source);
+        let mut out = [0; 32];
+        let refusal = render_with(strict, &tree, &text, &mut out).unwrap_err();
+        assert_eq!(out, [0; 32]);
+        assert_eq!(measure_with(strict, &tree, &text), Err(refusal));
+        assert_eq!((refusal.number, refusal.place), (9, 2), "{source}");
+        assert_eq!(refusal.reason, Reason::OpenSource);
+        let plain = render_to_string(&tree, &text);
+        assert!(plain.is_ok(), "{source}");
+        assert_eq!(
+            render_to_string_with(strict.strict(false), &tree, &text),
+            plain
+        );
+    }
+    let (tree, text) = check("/*");
+    let told = measure_with(strict, &tree, &text).unwrap_err().to_string();
+    let expected = "refused with 9, place 2: the CHECK source of record 2 ends inside a block comment or a quote; \
+                    close it: it would swallow the bracket behind it";
+    assert_eq!(told, expected);
+}
+
+#[test]
+fn a_whole_source_is_written_with_the_switch_on() {
+    let strict = Options::new().strict(true);
+    for source in [
+        "", "a", "/**/", "/*'*/", "--", "--'", "a--/*", "''", "'/*'", "\"--\"", "`'`",
+    ] {
+        let (tree, text) = check(source);
+        let plain = render_to_string(&tree, &text);
+        assert!(plain.is_ok(), "{source}");
+        assert_eq!(render_to_string_with(strict, &tree, &text), plain);
+    }
+}
+
+/// Bits that mean nothing neither turn the switch on nor off.
+#[test]
+fn other_bits_are_ignored() {
+    let (tree, text) = check("'");
+    for bits in [1 << 8, 1 << 31, u32::MAX - 1] {
+        let off = Options::from_bits(bits);
+        assert_eq!(measure_with(off, &tree, &text), measure(&tree, &text));
+        let on = off.strict(true);
+        assert_eq!(on.bits(), bits | 1);
+        assert_eq!(measure_with(on, &tree, &text).unwrap_err().number, 9);
+    }
+    assert_eq!(Options::new().bits(), 0);
+    assert_eq!(Options::new().strict(true).bits(), 1);
 }
 
 /// A FROM clause in brackets, `depth` records deep.

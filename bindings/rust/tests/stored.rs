@@ -2,8 +2,11 @@
 
 mod common;
 
-use common::{hex, streams, trees, Stored, Tokens};
-use kinyandoma::{measure, render, render_to_string, render_to_vec, Refusal, Stream};
+use common::{hex, streams, trees, trees_with_options, Stored, Tokens};
+use kinyandoma::{
+    measure, measure_with, render, render_to_string, render_to_vec, render_to_vec_with, Options,
+    Refusal, Stream,
+};
 use std::str::from_utf8;
 
 /// What stands in an output before.
@@ -58,10 +61,17 @@ fn render_keeps_to_its_room() {
 
 #[test]
 fn trees_are_refused_as_stored() {
-    let stored = trees("replay_trees");
-    assert_eq!(stored.len(), 1032);
+    let stored = trees_with_options("replay_trees");
+    assert_eq!(stored.len(), 1182);
     for tree in &stored {
-        let answer = match measure(&tree.tree, &tree.text) {
+        let options = Options::from_bits(tree.options);
+        let measured = measure_with(options, &tree.tree, &tree.text);
+        let written = render_to_vec_with(options, &tree.tree, &tree.text);
+        assert_eq!(measured, written.map(|text| text.len()));
+        if !options.is_strict() {
+            assert_eq!(measured, measure(&tree.tree, &tree.text));
+        }
+        let answer = match measured {
             Ok(_) => "0 0".to_string(),
             Err(refusal) => refused(refusal),
         };

@@ -17,22 +17,34 @@ pub fn lines(path: &str) -> Vec<String> {
     text.lines().map(str::to_string).collect()
 }
 
-/// A stored tree with its text, and the line that is expected for it.
+/// A stored tree with its text and the options of the call, and the line that is expected for it.
 pub struct Stored {
+    pub options: u32,
     pub tree: Vec<u8>,
     pub text: Vec<u8>,
     pub expected: String,
 }
 
-/// The trees of a replaying program.
+/// The trees of a replaying program whose cases have no options.
 pub fn trees(program: &str) -> Vec<Stored> {
+    stored(program, |_| 0)
+}
+
+/// The trees of a replaying program whose cases begin with their options.
+pub fn trees_with_options(program: &str) -> Vec<Stored> {
+    stored(program, |rest| rest.word())
+}
+
+fn stored(program: &str, options: fn(&mut Rest) -> u32) -> Vec<Stored> {
     let input = file(&format!("crates/{program}/stdin"));
     let mut rest = Rest(&input);
     let stored = lines(&format!("crates/{program}/stdout")).into_iter();
     let stored = stored.map(|expected| {
+        let options = options(&mut rest);
         let (tree, text) = (rest.length(), rest.length());
         let (tree, text) = (rest.take(tree).to_vec(), rest.take(text).to_vec());
         Stored {
+            options,
             tree,
             text,
             expected,
@@ -86,8 +98,12 @@ impl<'a> Rest<'a> {
         u16::from_le_bytes(self.take(2).try_into().expect("two bytes"))
     }
 
+    fn word(&mut self) -> u32 {
+        u32::from_le_bytes(self.take(4).try_into().expect("four bytes"))
+    }
+
     fn length(&mut self) -> usize {
-        u32::from_le_bytes(self.take(4).try_into().expect("four bytes")) as usize
+        self.word() as usize
     }
 
     /// Flags, with bit 15 for a value; its length; the value.
