@@ -4,3 +4,4 @@ pub mod Laws
 pub mod Length
 pub mod Cases
 pub mod Shapes
+pub mod Doubled

@@ -1,7 +1,8 @@
 -- The sink takes everything: a byte that finds no room in the output is only counted.
 use Prim.Native.Nat.{ℕ, _+_, min}
-use mathlib.Core.List.{List, _++_}
-use mathlib.Core.Bool.{Bool, true, false}
+use mathlib.Core.List.{List, [], _∷_, _++_}
+use mathlib.Core.Bool.{Bool, true, false, cond}
+use lib.Dec.{eqb}
 use lib.ListN.{length}
 use lib.Seq.{sets}
 use Rattle.laws.specs.Text.{ascii}
@@ -36,3 +37,8 @@ given false v = none
 -- a value between quotes
 abbrev pub between : List ℕ → List ℕ
 between v = ascii "'" ++ v ++ ascii "'"
+
+-- quotes doubled (02, viii)
+unfoldable pub doubled : List ℕ → List ℕ
+doubled [] = []
+doubled (b ∷ x) = cond (eqb b 0x27) (b ∷ b ∷ doubled x) (b ∷ doubled x)

@@ -6,7 +6,7 @@ ghost use mathlib.Core.Path.{_≡_};
 ghost use mathlib.Core.List.{[], _∷_};
 ghost use Rattle.stream.specs.Stream.{some, tight as tight', opens as opens', gap as gap', gapped, blob as blob', spelledBit, written, valuedBit};
 ghost use Rattle.spelling.specs.Token.{TK-STRING};
-ghost use Rattle.stream.specs.Sink.{count, pour, mark, given, between, step};
+ghost use Rattle.stream.specs.Sink.{count, pour, mark, given, between, doubled as doubled', step};
 use spelling::token::TK_BLOB;
 use spelling::token::TK_COMMA;
 use spelling::token::TK_DOT;
@@ -20,6 +20,8 @@ use spelling::token::TK_STRING;
 const MOST: usize = 0xffff_ffff_ffff_ffff;
 
 const SPACE: u8 = b' ';
+
+const QUOTE: u8 = b'\'';
 
 // It is handed on field by field: a copy of the whole would move its unused bytes too, and wait for them.
 pub struct Sink {
@@ -170,6 +172,49 @@ pub fn quoted(s: Sink, out: &mut [u8], word: &[u8], value: &[u8]) -> Sink
     let t = gap(s, out, TK_STRING);
     let u = spell(t, out, TK_STRING, word);
     let v = in_quotes(u, out, value);
+    Sink {
+        spaced: false,
+        at: v.at,
+    }
+}
+
+// A byte, and a quote twice.
+fn twice(s: Sink, out: &mut [u8], b: u8) -> Sink
+    ensures { λ r. ⌜ (r, now (out .exit)) ≡ pour (s, now (out .entry)) (doubled' (b ∷ [])) ⌝ }
+{
+    let t = put_byte(s, out, b);
+    if b == QUOTE { put_byte(t, out, b) } else { t }
+}
+
+// A value with each quote in it doubled.
+fn pour_doubled(s: Sink, out: &mut [u8], value: &[u8]) -> Sink
+    ensures { λ r. ⌜ (r, now (out .exit)) ≡ pour (s, now (out .entry)) (doubled' (now (value .entry))) ⌝ }
+{
+    let mut t = s;
+    let mut i = 0;
+    while i < value.len() {
+        t = twice(t, out, value[i]);
+        i += 1;
+    }
+    t
+}
+
+// A value between quotes, with each quote in it doubled.
+fn in_quotes_doubled(s: Sink, out: &mut [u8], value: &[u8]) -> Sink
+    ensures { λ r. ⌜ (r, now (out .exit)) ≡ pour (s, now (out .entry)) (between (doubled' (now (value .entry)))) ⌝ }
+{
+    let t = put_byte(s, out, QUOTE);
+    let t = pour_doubled(t, out, value);
+    put_byte(t, out, QUOTE)
+}
+
+// TK_STRING, whose fixed spelling is word, with a value between quotes and each quote in it doubled.
+pub fn doubled(s: Sink, out: &mut [u8], word: &[u8], value: &[u8]) -> Sink
+    ensures { λ r. ⌜ (r, now (out .exit)) ≡ step (s, now (out .entry)) TK-STRING (now (word .entry)) (some (between (doubled' (now (value .entry))))) ⌝ }
+{
+    let g = gap(s, out, TK_STRING);
+    let w = spell(g, out, TK_STRING, word);
+    let v = in_quotes_doubled(w, out, value);
     Sink {
         spaced: false,
         at: v.at,

@@ -7,7 +7,7 @@ use mathlib.Core.Bool.{Bool, true, false, cond}
 use lib.ListN.{length, length-append, drop-of-length-le}
 use lib.Dec.{eqb}
 use borrow.Author.Tests.{eq-eqb, ne-eqb}
-use Rattle.white.specs.Parts.{Span, span, marks, runs, parts, second, splitOf}
+use Rattle.white.specs.Parts.{Span, span, marks, runs, parts, second, splitOf, firstOf}
 use Rattle.white.specs.Steps.{partsFrom, SkipsWhite, SkipsPart, counted}
 use Rattle.white.specs.declared.Parts.{Parts}
 
@@ -60,3 +60,16 @@ all-passed s p at h a =
     rw (← d)
     (ap (λ (k : ℕ). record { count = k; start = p .start; len = p .len }) (a .counts)
     ∙ ap (λ (x : Span). record { count = length (a .seen); start = x .start; len = x .len }) (a .keeps))
+
+-- the first part: White_Space to the end, or a part behind it
+pub no-first : (s : List ℕ) (at : ℕ) → SkipsWhite s 0 at → length s ≤ at → record { start = 0; len = 0 } ≡ firstOf s
+unfolding firstOf parts partsFrom runs marks
+no-first s at w h =
+    let e : partsFrom s at 0 ≡ parts s = w .same in
+    rw (← e, drop-of-length-le s h)
+
+pub is-first : (s : List ℕ) (at end : ℕ) → SkipsWhite s 0 at → SkipsPart s at end → record { start = at; len = end - at } ≡ firstOf s
+unfolding firstOf parts partsFrom
+is-first s at end w p =
+    let e : partsFrom s at 0 ≡ parts s = w .same in
+    rw (← e, p .part)

@@ -1,4 +1,4 @@
--- The parts are the longest runs of bytes that belong to no White_Space character: a byte is in a part where its mark is false, no part is empty, and between two parts stands a byte at least.
+-- The parts are the longest runs of bytes that belong to no White_Space character: a byte is in a part where its mark is false, no part is empty, and between two parts stands a byte at least. None reaches past the end of the text.
 use Prim.Native.Nat.{ℕ, zero, suc, _+_, _-_, _≤_, _<_}
 use native.Mathlib.Omega.{arith}
 use native.Mathlib.Nat.{not-suc-le-zero, le-of-suc-le-suc}
@@ -9,7 +9,7 @@ use lib.Dec.{leb, ltb}
 use lib.ListN.{length, getD}
 use borrow.Author.Tests.{le-leb, lt-leb, lt-ltb, le-ltb, leb-true}
 use Rattle.laws.specs.Tests.{and-parts}
-use Rattle.white.specs.Parts.{Span, marks, closed, runs, parts}
+use Rattle.white.specs.Parts.{Span, span, marks, closed, runs, parts}
 
 -- whether place k lies in one of the spans
 abbrev pub inSome : ℕ → List Span → Bool
@@ -91,3 +91,18 @@ unfolding parts
 in-part s k h =
     let e : 0 + k ≡ k = omega arith in
     rw e at (by-mark (marks 0 s) 0 0 k (omega arith) (omega (arith, marks-length s 0)))
+
+-- the part at place k of the list, 0 and 0 where there is none, ends within the text
+ends-runs : (ms : List Bool) (i n k : ℕ) → n ≤ i → getD (runs i n ms) k (span 0 0) .start + getD (runs i n ms) k (span 0 0) .len ≤ i + length ms
+unfolding runs
+ends-runs [] i zero k h = omega arith
+ends-runs [] i (suc n) zero h = omega arith
+ends-runs [] i (suc n) (suc k) h = omega arith
+ends-runs (true ∷ ms) i zero k h = omega (arith, ends-runs ms (i + 1) 0 k (omega arith))
+ends-runs (true ∷ ms) i (suc n) zero h = omega arith
+ends-runs (true ∷ ms) i (suc n) (suc k) h = omega (arith, ends-runs ms (i + 1) 0 k (omega arith))
+ends-runs (false ∷ ms) i n k h = omega (arith, ends-runs ms (i + 1) (n + 1) k (omega arith))
+
+pub within : (s : List ℕ) (k : ℕ) → getD (parts s) k (span 0 0) .start + getD (parts s) k (span 0 0) .len ≤ length s
+unfolding parts
+within s k = omega (arith, ends-runs (marks 0 s) 0 0 k (omega arith), marks-length s 0)

@@ -10,7 +10,7 @@ use Rattle.laws.specs.Among.{among, all}
 use Rattle.laws.specs.Below.{at}
 use Rattle.laws.specs.Text.{ascii}
 use Rattle.white.specs.White.{whiteSpace, encode, whiteLength, lengthAmong}
-use Rattle.white.specs.Parts.{marks, runs, parts, splitOf}
+use Rattle.white.specs.Parts.{marks, runs, parts, splitOf, firstOf}
 
 -- there are 25
 all-there : length whiteSpace ≡ 25
@@ -69,3 +69,11 @@ one-part = refl
 wide-spaces : splitOf (ascii "a" ++ encode 0xA0 ++ ascii "b" ++ encode 0x3000) ≡ record { count = 2; start = 3; len = 1 }
 unfolding splitOf parts runs marks whiteLength lengthAmong
 wide-spaces = refl
+
+first-behind : firstOf (encode 0xA0 ++ ascii "a b") ≡ record { start = 2; len = 1 }
+unfolding firstOf parts runs marks whiteLength lengthAmong
+first-behind = refl
+
+no-first : firstOf (ascii "  ") ≡ record { start = 0; len = 0 }
+unfolding firstOf parts runs marks whiteLength lengthAmong
+no-first = refl

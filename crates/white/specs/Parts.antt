@@ -6,6 +6,7 @@ use lib.ListN.{length, getD}
 use lib.Dec.{ltb}
 use Rattle.white.specs.White.{whiteLength}
 use Rattle.white.specs.declared.Parts.{Parts}
+use Rattle.white.specs.declared.Part.{Part}
 
 pub record Span : Type 0 where
   pub start : ℕ
@@ -40,3 +41,10 @@ second ps = getD ps 1 (span 0 0)
 
 unfoldable pub splitOf : List ℕ → Parts
 splitOf s = record { count = length (parts s); start = second (parts s) .start; len = second (parts s) .len }
+
+-- the first of them, and 0 and 0 where there is none
+abbrev pub first : List Span → Span
+first ps = getD ps 0 (span 0 0)
+
+unfoldable pub firstOf : List ℕ → Part
+firstOf s = record { start = first (parts s) .start; len = first (parts s) .len }

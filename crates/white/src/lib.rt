@@ -5,7 +5,7 @@ ghost use Prim.Native.Nat.{_+_, _-_, _≤_, _<_};
 ghost use lib.ListN.{length, drop};
 ghost use Rattle.laws.specs.Among.{among};
 ghost use Rattle.white.specs.White.{whiteLength};
-ghost use Rattle.white.specs.Parts.{splitOf};
+ghost use Rattle.white.specs.Parts.{splitOf, firstOf};
 ghost use Rattle.white.specs.Steps.{ones, twos, threes, beginsOneOf, spaces, SkipsWhite, SkipsPart, counted};
 
 // One byte: 9 to D and 20.
@@ -68,6 +68,12 @@ const ONE_PART: usize = 1;
 // How many parts a text has, and where the second one stands: 0 and 0 where there is none.
 pub struct Parts {
     pub count: usize,
+    pub start: usize,
+    pub len: usize,
+}
+
+// Where a part of a text stands.
+pub struct Part {
     pub start: usize,
     pub len: usize,
 }
@@ -196,4 +202,19 @@ pub fn split(s: &[u8]) -> Parts
         at = skip_white(s, end);
     }
     p
+}
+
+// Where the first of those parts stands: 0 and 0 where there is none.
+pub fn first_part(s: &[u8]) -> Part
+    ensures { λ r. ⌜ r ≡ firstOf (now (s .entry)) ⌝ }
+{
+    let begin = skip_white(s, 0);
+    if s.len() <= begin {
+        return Part { start: 0, len: 0 };
+    }
+    let end = skip_part(s, begin);
+    Part {
+        start: begin,
+        len: end - begin,
+    }
 }

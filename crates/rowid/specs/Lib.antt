@@ -1,0 +1,2 @@
+pub mod Rowid
+pub mod Examples
