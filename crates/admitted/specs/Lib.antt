@@ -5,3 +5,4 @@ pub mod Fills
 pub mod Reads
 pub mod Solved
 pub mod Admitted
+pub mod Editions

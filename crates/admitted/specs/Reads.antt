@@ -14,7 +14,7 @@ use Rattle.stream.specs.Stream.{Token}
 use Rattle.spelling.specs.Token.{TK-LP, TK-RP}
 use Rattle.record.specs.declared.Record.{Record}
 use Rattle.grammar.specs.Kind.{NONE, LIST, TOKEN, RUN, REPLACE}
-use Rattle.grammar.specs.Shape.{Class, one, list, checkSource, ruled, Shape, nothing, token, ident, word, said, line, when, is, slot, each, commas, row, lines, tuples, given, filled, replacing, decimal, brackets, quoted, rowid, source, later, _·_}
+use Rattle.grammar.specs.Shape.{Class, one, list, checkSource, ruled, Shape, nothing, token, ident, word, said, line, when, is, slot, each, commas, row, lines, tuples, given, filled, replacing, decimal, brackets, quoted, rowid, source, both, later, _·_}
 use Rattle.grammar.specs.Grammar.{run, text, maybe, root, rootKinds, shape}
 use Rattle.grammar.specs.Slots.{slotsOf, allowed, elements}
 use Rattle.grammar.specs.Laws.{sameAll, same-all}
@@ -24,7 +24,7 @@ use Rattle.tree.specs.Steps.{childless}
 use Rattle.tokens.specs.Corners.{bare, valued, newline}
 use Rattle.tokens.specs.Tokens.{Source, Out, at, behind, tokenOf, flagged, say, of, then, listed, placed, ofKind, comma, bracketed, checked, means, deepest}
 use Rattle.admitted.specs.Watched.{inPlace, leftOut, tokenPlace, child, items, behindRun, watched, watchedWhole}
-use Rattle.admitted.specs.Same.{Same, says, ofs, either, thens, laters, rows-same}
+use Rattle.admitted.specs.Same.{Same, says, ofs, either, thens, boths, laters, rows-same}
 use Rattle.admitted.specs.Tame.{slots, tame, tamed, plain, no-list, none-held, barrenPlace}
 use Rattle.admitted.specs.Fills.{Fills, Filled, fill, stands, none-holds, run-holds, slots-hold, behind-there, past-childless, past-leaf}
 
@@ -123,21 +123,25 @@ module _ (e : Source) where
           (λ q. watched-same r a (and-right (slots 1 a) _ n) ps j h)
       watched-same r (replacing a b) n ps j h =
           let same = same-all (slotsOf a) (slotsOf b) (and-left (sameAll (slotsOf a) (slotsOf b)) _ n) in
-          let both = and-parts (tame a) (tame b) (and-right (sameAll (slotsOf a) (slotsOf b)) _ n) in
-          either (eqb (at e j .kind) REPLACE) (λ q. watched-same r a (both .0) ps j (rw same h)) (λ q. watched-same r b (both .1) ps j h)
+          let two = and-parts (tame a) (tame b) (and-right (sameAll (slotsOf a) (slotsOf b)) _ n) in
+          either (eqb (at e j .kind) REPLACE) (λ q. watched-same r a (two .0) ps j (rw same h)) (λ q. watched-same r b (two .1) ps j h)
       watched-same r decimal n ps j h = in-place (means e f r decimal) (means e g r decimal) j h (leaf _ j refl h)
       watched-same r brackets n ps j h = in-place (means e f r brackets) (means e g r brackets) j h (leaf _ j refl h)
       watched-same r quoted n ps j h = in-place (means e f r quoted) (means e g r quoted) j h (leaf _ j refl h)
       watched-same r rowid n ps j h = in-place (means e f r rowid) (means e g r rowid) j h (leaf _ j refl h)
       watched-same r source n ps j h = source-same f g (child-same (d + 1) (omega arith) run refl (place (d + 1) (ruled checkSource) ∷ ps) j h)
+      watched-same r (both a b) n ps j h =
+          let two = and-parts (tame a) (tame b) n in
+          boths (e .edition) (watched e u f r b) (watched e v g r b) (watched-same r a (two .0) (map (place (d + 1)) (slotsOf b) ++ ps) j (rw (map-append, append-assoc) at h))
+          (watched-same r b (two .1) ps)
       watched-same r (later a b) n ps j h =
-          let both = and-parts (tame a) (tame b) n in
-          laters (watched e u f r b) (watched e v g r b) (watched-same r a (both .0) (map (place (d + 1)) (slotsOf b) ++ ps) j (rw (map-append, append-assoc) at h))
-          (watched-same r b (both .1) ps)
+          let two = and-parts (tame a) (tame b) n in
+          laters (watched e u f r b) (watched e v g r b) (watched-same r a (two .0) (map (place (d + 1)) (slotsOf b) ++ ps) j (rw (map-append, append-assoc) at h))
+          (watched-same r b (two .1) ps)
       watched-same r (a · b) n ps j h =
-          let both = and-parts (tame a) (tame b) n in
-          thens (watched e u f r b) (watched e v g r b) (watched-same r a (both .0) (map (place (d + 1)) (slotsOf b) ++ ps) j (rw (map-append, append-assoc) at h))
-          (watched-same r b (both .1) ps)
+          let two = and-parts (tame a) (tame b) n in
+          thens (watched e u f r b) (watched e v g r b) (watched-same r a (two .0) (map (place (d + 1)) (slotsOf b) ++ ps) j (rw (map-append, append-assoc) at h))
+          (watched-same r b (two .1) ps)
 
       -- the entry of a RUN
       run-same : (r : Record) → eqb (r .kind) RUN ≡ true → {ps : List Place} (j : ℕ) → Fills e (map (place (d + 1)) (replicate (r .kids) tokenPlace) ++ ps) j

@@ -14,12 +14,12 @@ use Rattle.record.specs.Record.{count}
 use Rattle.record.specs.Laws.{past}
 use Rattle.record.specs.declared.Record.{Record}
 use Rattle.grammar.specs.Kind.{NONE, LIST, TOKEN, REPLACE}
-use Rattle.grammar.specs.Shape.{Class, Shape, nothing, token, ident, word, said, line, when, is, slot, each, commas, row, lines, tuples, given, filled, replacing, decimal, brackets, quoted, rowid, source, later, _·_}
+use Rattle.grammar.specs.Shape.{Class, Shape, nothing, token, ident, word, said, line, when, is, slot, each, commas, row, lines, tuples, given, filled, replacing, decimal, brackets, quoted, rowid, source, both, later, _·_}
 use Rattle.grammar.specs.Grammar.{run, shape}
 use Rattle.grammar.specs.Slots.{allowed}
 use Rattle.tokens.specs.Corners.{bare, valued, newline}
 use Rattle.tokens.specs.Tokens.{Source, Out, at, behind, tokenOf, flagged, say, of, then, listed, placed, ofKind, comma, bracketed, means, node}
-use Rattle.admitted.specs.Same.{Same, says, ofs, either, thens, laters, checks, rows-same}
+use Rattle.admitted.specs.Same.{Same, says, ofs, either, thens, boths, laters, checks, rows-same}
 use Rattle.admitted.specs.Fills.{behind-there}
 
 abbrev pub Solves : Source → (ℕ → ℕ → Out) → Type 0
@@ -87,6 +87,7 @@ module _ (e : Source) where
       means-alike r quoted j h = passes _ j h
       means-alike r rowid j h = passes _ j h
       means-alike r source j h = checks e (placed-alike run j h) next-amid
+      means-alike r (both a b) j h = boths (e .edition) (means e f r b) (means e g r b) (means-alike r a j h) (means-alike r b)
       means-alike r (later a b) j h = laters (means e f r b) (means e g r b) (means-alike r a j h) (means-alike r b)
       means-alike r (a · b) j h = thens (means e f r b) (means e g r b) (means-alike r a j h) (means-alike r b)
 

@@ -11,7 +11,7 @@ use borrow.Author.Tests.{eqb-true, not-true}
 use Rattle.laws.specs.Among.{all, each as each-among}
 use Rattle.laws.specs.Tests.{and-left, and-right}
 use Rattle.grammar.specs.Kind.{NONE, LIST, RUN, TEXT, NUMBER}
-use Rattle.grammar.specs.Shape.{Class, one, list, oneOr, small, ruled, Shape, nothing, token, ident, word, said, line, when, is, slot, each, commas, row, lines, tuples, given, filled, replacing, decimal, brackets, quoted, rowid, source, later, _·_}
+use Rattle.grammar.specs.Shape.{Class, one, list, oneOr, small, ruled, Shape, nothing, token, ident, word, said, line, when, is, slot, each, commas, row, lines, tuples, given, filled, replacing, decimal, brackets, quoted, rowid, source, both, later, _·_}
 use Rattle.grammar.specs.Grammar.{shape}
 use Rattle.grammar.specs.Slots.{slotsOf, allowed}
 use Rattle.grammar.specs.Packed.{sameClass}
@@ -53,6 +53,7 @@ tame brackets = true
 tame quoted = true
 tame rowid = true
 tame source = true
+tame (both a b) = tame a && tame b
 tame (later a b) = tame a && tame b
 tame (a · b) = tame a && tame b
 

@@ -10,11 +10,12 @@ use borrow.Author.Tests.{eqb-true}
 use Rattle.stream.specs.Stream.{Token}
 use Rattle.record.specs.declared.Record.{Record}
 use Rattle.grammar.specs.Kind.{NONE, LIST, TOKEN, TEXT, NUMBER, REPLACE}
-use Rattle.grammar.specs.Shape.{Class, one, list, small, checkSource, ruled, Shape, nothing, token, ident, word, said, line, when, is, slot, each, commas, row, lines, tuples, given, filled, replacing, decimal, brackets, quoted, rowid, source, later, _·_}
+use Rattle.grammar.specs.Shape.{Class, one, list, small, checkSource, withoutRowid, ruled, Shape, nothing, token, ident, word, said, line, when, is, slot, each, commas, row, lines, tuples, given, filled, replacing, decimal, brackets, quoted, rowid, source, both, later, _·_}
 use Rattle.grammar.specs.Grammar.{run, text, number, maybe, root, rootKinds, shape}
 use Rattle.grammar.specs.Slots.{slotsOf, allowed}
 use Rattle.tokens.specs.Corners.{valued, newline, sourced}
 use Rattle.tokens.specs.Tokens.{Source, Out, at, behind, part, tokenOf, flagged, say, of, then, rows, listed, placed, ofKind, comma, bracketed, checked, means}
+use Rattle.admitted.specs.Same.{joined}
 
 -- f, if the kind of the record at j may stand in the place c
 unfoldable pub inPlace : Source → (ℕ → Out) → Class → (ℕ → Out) → ℕ → Out
@@ -63,8 +64,9 @@ module _ (e : Source) (u : ℕ → Out) (f : ℕ → ℕ → Out) where
   watched r decimal j = inPlace e u (maybe number) (means e f r decimal) j
   watched r brackets j = inPlace e u small (means e f r brackets) j
   watched r quoted j = inPlace e u text (means e f r quoted) j
-  watched r rowid j = inPlace e u (maybe text) (means e f r rowid) j
+  watched r rowid j = inPlace e u (ruled withoutRowid) (means e f r rowid) j
   watched r source j = behindRun (child run j)
+  watched r (both a b) j = joined (e .edition) (watched r a j) (watched r b)
   watched r (later a b) j =
       record { tokens = watched r b (watched r a j .next) .tokens ++ watched r a j .tokens; next = watched r b (watched r a j .next) .next }
   watched r (a · b) j = then (watched r a j) (watched r b)
@@ -158,9 +160,10 @@ module _ (e : Source) where
     watched-passed r decimal j = kind-passed (maybe number) NUMBER _ j refl
     watched-passed r brackets j = kind-passed small NUMBER _ j refl
     watched-passed r quoted j = kind-passed text TEXT _ j refl
-    watched-passed r rowid j = kind-passed (maybe text) TEXT _ j refl
+    watched-passed r rowid j = kind-passed (ruled withoutRowid) TEXT _ j refl
     watched-passed r source j =
         behind-passed f (child e (passed e) f run j) ∙ ap (λ (p : ℕ → Out). checked e (p j .tokens) (p j .next)) (child-passed run)
+    watched-passed r (both a b) j = ap₂ (joined (e .edition)) (watched-passed r a j) (fun-ext (watched-passed r b))
     watched-passed r (later a b) j =
         ap₂ (λ (o : Out) (p : ℕ → Out). record { tokens = p (o .next) .tokens ++ o .tokens; next = p (o .next) .next })
         (watched-passed r a j) (fun-ext (watched-passed r b))

@@ -50,7 +50,7 @@ fn text_case(name: &[u8], tree: &[u8], text: &[u8]) {
 
 fn refusal_case(name: &[u8], tree: &[u8], text: &[u8]) {
     print_name(name);
-    printer::print_files(tree, text);
+    printer::print_files(NO_OPTIONS, tree, text);
 }
 
 // Section 6's tree, measured, and rendered to outputs of several lengths.

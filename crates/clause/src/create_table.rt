@@ -3,11 +3,12 @@ ghost use mathlib.Core.List.{[], _∷_};
 ghost use Rattle.grammar.specs.Kind.{ColumnsAndConstraints, AsSelect};
 ghost use Rattle.grammar.specs.Shape.{slot};
 ghost use Rattle.grammar.specs.Grammar.{shape, node};
-ghost use Rattle.pen.specs.Pen.{source, Below};
+ghost use Rattle.pen.specs.Pen.{source, sourceIn, Below};
 use super::select::select;
 use super::table::columns_and_constraints;
 use grammar::kind::AS_SELECT;
 use grammar::kind::COLUMNS_AND_CONSTRAINTS;
+use mode::Edition;
 use parts::run;
 use pen::Pen;
 use pen::pass;
@@ -30,8 +31,9 @@ pub fn create_table_body(
     tree: &[u8],
     text: &[u8],
     left: usize,
+    edition: Edition,
 ) -> Pen
-    ensures { λ q. ⌜ Below (source (now (tree .entry)) (now (text .entry))) (now (pool .entry)) left (slot (node (ColumnsAndConstraints ∷ AsSelect ∷ []))) (p, now (out .entry)) (q, now (out .exit)) ⌝ }
+    ensures { λ q. ⌜ Below (sourceIn (now (tree .entry)) (now (text .entry)) edition) (now (pool .entry)) left (slot (node (ColumnsAndConstraints ∷ AsSelect ∷ []))) (p, now (out .entry)) (q, now (out .exit)) ⌝ }
 {
     let r = record::read(tree, p.next);
     if left == 0 {
@@ -39,7 +41,7 @@ pub fn create_table_body(
     }
     let q = pass(p, tree);
     if r.kind == COLUMNS_AND_CONSTRAINTS {
-        return columns_and_constraints(q, out, pool, tree, text, left - 1);
+        return columns_and_constraints(q, out, pool, tree, text, left - 1, edition);
     }
     if r.kind == AS_SELECT {
         return as_select(q, out, pool, tree, text, left - 1);

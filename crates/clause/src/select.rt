@@ -16,7 +16,6 @@ use super::column::pair;
 use super::constraint::domain_constraint;
 use super::constraint::named_table_constraint;
 use super::join::join_constraint;
-use super::types::operator_clause;
 use super::types::type_field;
 use super::types::type_param;
 use grammar::kind::COLUMN_DEFINITION;
@@ -29,7 +28,6 @@ use grammar::kind::LIST;
 use grammar::kind::NAMED_TABLE_CONSTRAINT;
 use grammar::kind::NONE;
 use grammar::kind::ONE_SELECT;
-use grammar::kind::OPERATOR_CLAUSE;
 use grammar::kind::PAIR;
 use grammar::kind::SELECT;
 use grammar::kind::SELECT_BODY;
@@ -365,9 +363,6 @@ fn element(
     }
     if kind == TYPE_PARAM {
         return type_param(p, out, pool, tree, text, left);
-    }
-    if kind == OPERATOR_CLAUSE {
-        return operator_clause(p, out, pool, tree, text, left);
     }
     if kind == DOMAIN_CONSTRAINT {
         return domain_constraint(p, out, pool, tree, text, left);

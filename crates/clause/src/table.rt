@@ -4,10 +4,10 @@ ghost use Rattle.spelling.specs.Token.{TK-COMMA};
 ghost use Rattle.grammar.specs.Kind.{RenameTo, AddColumn, AlterColumn, RenameColumn, DropColumn, ColumnsAndConstraints, NamedTableConstraint};
 ghost use Rattle.grammar.specs.Shape.{slot, word as word', commas, filled, _·_};
 ghost use Rattle.grammar.specs.Grammar.{shape, from, node};
-ghost use Rattle.pen.specs.Pen.{source, Always, Below};
+ghost use Rattle.pen.specs.Pen.{source, sourceIn, Always, Below};
 use super::column::column_definition;
 use super::select::list;
-use corners::rowid;
+use corners::options;
 use grammar::kind::ADD_COLUMN;
 use grammar::kind::ALTER_COLUMN;
 use grammar::kind::COLUMN_DEFINITION;
@@ -15,7 +15,7 @@ use grammar::kind::DROP_COLUMN;
 use grammar::kind::NAMED_TABLE_CONSTRAINT;
 use grammar::kind::RENAME_COLUMN;
 use grammar::kind::RENAME_TO;
-use parts::name;
+use mode::Edition;
 use parts::run;
 use pen::Pen;
 use pen::pass;
@@ -133,13 +133,13 @@ pub fn columns_and_constraints(
     tree: &[u8],
     text: &[u8],
     left: usize,
+    edition: Edition,
 ) -> Pen
-    ensures { λ q. ⌜ Below (source (now (tree .entry)) (now (text .entry))) (now (pool .entry)) left (shape ColumnsAndConstraints) (p, now (out .entry)) (q, now (out .exit)) ⌝ }
+    ensures { λ q. ⌜ Below (sourceIn (now (tree .entry)) (now (text .entry)) edition) (now (pool .entry)) left (shape ColumnsAndConstraints) (p, now (out .entry)) (q, now (out .exit)) ⌝ }
 {
     let q = word(p, out, pool, TK_LP);
     let q = list(q, out, pool, tree, text, left, COLUMN_DEFINITION, true);
     let q = constraints(q, out, pool, tree, text, left);
     let q = word(q, out, pool, TK_RP);
-    let q = rowid(q, out, pool, tree, text);
-    name(q, out, pool, tree, text)
+    options(q, out, pool, tree, text, edition)
 }

@@ -3,7 +3,7 @@ ghost use mathlib.Core.List.{[], _∷_};
 ghost use Rattle.grammar.specs.Kind.{TypeField, TypeParam, OperatorClause};
 ghost use Rattle.grammar.specs.Shape.{slot, given};
 ghost use Rattle.grammar.specs.Grammar.{run as run', node, maybe, parens, typeName};
-ghost use Rattle.pen.specs.Pen.{source, Always, Below};
+ghost use Rattle.pen.specs.Pen.{source, sourceIn, Always, Below};
 use corners::dimensions;
 use corners::quoted;
 use grammar::kind::NONE;
@@ -11,6 +11,7 @@ use grammar::kind::OPERATOR_CLAUSE;
 use grammar::kind::TYPE_FIELD;
 use grammar::kind::TYPE_NAME;
 use grammar::kind::TYPE_PARAM;
+use mode::Edition;
 use parts::name;
 use parts::run;
 use pen::Pen;
@@ -81,8 +82,9 @@ pub fn operator_clause(
     tree: &[u8],
     text: &[u8],
     left: usize,
+    edition: Edition,
 ) -> Pen
-    ensures { λ q. ⌜ Below (source (now (tree .entry)) (now (text .entry))) (now (pool .entry)) left (slot (node (OperatorClause ∷ []))) (p, now (out .entry)) (q, now (out .exit)) ⌝ }
+    ensures { λ q. ⌜ Below (sourceIn (now (tree .entry)) (now (text .entry)) edition) (now (pool .entry)) left (slot (node (OperatorClause ∷ []))) (p, now (out .entry)) (q, now (out .exit)) ⌝ }
 {
     let r = record::read(tree, p.next);
     if (left == 0) | (r.kind != OPERATOR_CLAUSE) {
@@ -90,6 +92,6 @@ pub fn operator_clause(
     }
     let q = pass(p, tree);
     let q = said(q, out, pool, b"OPERATOR");
-    let q = quoted(q, out, pool, tree, text);
+    let q = quoted(q, out, pool, tree, text, edition);
     name(q, out, pool, tree, text)
 }

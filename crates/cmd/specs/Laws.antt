@@ -18,9 +18,11 @@ use Rattle.stream.specs.declared.Sink.{Sink}
 use Rattle.tokens.specs.Tokens as tokens
 use Rattle.tokens.specs.Tokens.{placed, comma, means, whole, tokensOf}
 use Rattle.pen.specs.declared.Pen.{Pen}
-use Rattle.pen.specs.Pen.{source, Spot, Past, emit, put, Writes}
+use Rattle.mode.specs.declared.Edition.{Edition}
+use Rattle.tokens.specs.Tokens.{inEdition}
+use Rattle.pen.specs.Pen.{Scope, lent, sourceIn, Spot, Past, emit, put, Writes}
 use Rattle.pen.specs.Places.{index, entered, alike}
-use Rattle.parts.specs.Laws.{a-list}
+use Rattle.parts.specs.Laws.{a-list-in}
 use Rattle.cmd.specs.Root.{lateClauses, RootRow, rootOut, Rooted}
 
 -- ---- a group within another: kinds lo to hi are of both
@@ -28,9 +30,9 @@ or-true : (b : Bool) → (b || true) ≡ true
 or-true true = refl
 or-true false = refl
 
-module _ {t x w o : List ℕ} {d : ℕ} {r k : Record} {p : Pen} {b : Spot} (read : k ≡ recordAt t (p .next)) where
-  pub group-of : {ls : List ℕ} (lo n : ℕ) → lo ≤ k .kind → k .kind < lo + n → among (k .kind) ls ≡ true → Writes (source t x) w d r (slot (node (from lo n))) (p, o) b
-      → Writes (source t x) w d r (slot (node ls)) (p, o) b
+module _ {t x w o : List ℕ} {g : Scope} {d : ℕ} {r k : Record} {p : Pen} {b : Spot} (read : k ≡ recordAt t (p .next)) where
+  pub group-of : {ls : List ℕ} (lo n : ℕ) → lo ≤ k .kind → k .kind < lo + n → among (k .kind) ls ≡ true → Writes (lent t x g) w d r (slot (node (from lo n))) (p, o) b
+      → Writes (lent t x g) w d r (slot (node ls)) (p, o) b
   group-of {ls} lo n h l m p = alike read (rw (inside (k .kind) lo n h l, m)) p
 
 pub early-in : (k : ℕ) → Select ≤ k → k < ColumnDefinition → among k (from Select 20) ≡ true
@@ -71,24 +73,24 @@ pub root-late : (k : ℕ) → ColumnDefinition ≤ k → among k (RUN ∷ lateCl
 root-late k h = no-run k lateClauses (omega arith) ∙ sym (all-roots k ∙ rw (none-low k (omega arith), behind-all k Select 20 h))
 
 -- ---- the ways through a root
-module _ {t w o : List ℕ} {k : Record} {p : Pen} (x : List ℕ) (read : k ≡ recordAt t (p .next)) where
-  pub root-list : {d : ℕ} {q : Pen} {b : Spot} → Past t p q → k .kind ≡ LIST → RootRow (source t x) w d (k .kids) (q, o) b → Rooted (source t x) w d (p, o) b
+module _ {t w o : List ℕ} {k : Record} {p : Pen} (x : List ℕ) (v : Edition) (read : k ≡ recordAt t (p .next)) where
+  pub root-list : {d : ℕ} {q : Pen} {b : Spot} → Past t p q → k .kind ≡ LIST → RootRow (inEdition t x v) w d (k .kids) (q, o) b → Rooted (inEdition t x v) w d (p, o) b
   unfolding rootOut
-  root-list past z h =
+  root-list {d} past z h =
       let e : eqb (recordAt t (p .next) .kind) LIST ≡ true = rw (← read) (eq-eqb (k .kind) LIST z) in
-      record { puts = rw e (a-list x _ comma read past z h) }
+      record { puts = rw e (a-list-in x (λ u. placed (inEdition t x u) (tokens.node (inEdition t x u) d) (one rootKinds)) comma read past z v h) }
 
-  pub root-cmd : {d : ℕ} {q : Pen} {b : Spot} → Past t p q → k .kind ≡ Cmd → Writes (source t x) w d k (shape Cmd) (q, o) b → Rooted (source t x) w (suc d) (p, o) b
+  pub root-cmd : {d : ℕ} {q : Pen} {b : Spot} → Past t p q → k .kind ≡ Cmd → Writes (sourceIn t x v) w d k (shape Cmd) (q, o) b → Rooted (inEdition t x v) w (suc d) (p, o) b
   unfolding rootOut placed allowed tokens.node means shape
-  root-cmd past z h = record { puts = rw (← read, z, ← index past x) (entered past (h .puts)) }
+  root-cmd past z h = record { puts = rw (← read, z, ← index past x v) (entered past (h .puts v)) }
 
-  pub root-else : {d : ℕ} {r : Record} {b : Spot} → (k .kind ≡ LIST → ⊥) → (k .kind ≡ Cmd → ⊥) → Writes (source t x) w d r (slot (one rootKinds)) (p, o) b
-      → Rooted (source t x) w d (p, o) b
+  pub root-else : {d : ℕ} {r : Record} {b : Spot} → (k .kind ≡ LIST → ⊥) → (k .kind ≡ Cmd → ⊥) → Writes (sourceIn t x v) w d r (slot (one rootKinds)) (p, o) b
+      → Rooted (inEdition t x v) w d (p, o) b
   unfolding rootOut placed allowed means
   root-else z y h =
-      record { puts = rw (← read, ne-eqb (k .kind) LIST z, ne-eqb (k .kind) Cmd y, or-none (among (k .kind) rootKinds)) (rw (← read) at (h .puts)) }
+      record { puts = rw (← read, ne-eqb (k .kind) LIST z, ne-eqb (k .kind) Cmd y, or-none (among (k .kind) rootKinds)) (rw (← read) at (h .puts v)) }
 
 -- the tokens of the tree are those of the root at its first record
-pub all-tokens : {t x w o o′ : List ℕ} {s : Sink} {q : Pen} → Rooted (source t x) w 64 (record { sink = s; next = 0 }, o) (q, o′) → (q .sink, o′) ≡ emit w (s, o) (tokensOf (source t x))
+pub all-tokens : {t x w o o′ : List ℕ} {v : Edition} {s : Sink} {q : Pen} → Rooted (inEdition t x v) w 64 (record { sink = s; next = 0 }, o) (q, o′) → (q .sink, o′) ≡ emit w (s, o) (tokensOf (inEdition t x v))
 unfolding rootOut tokensOf whole put
 all-tokens h = ap (λ (a : Spot). (a .0 .sink, a .1)) (h .puts .is)

@@ -5,7 +5,8 @@ ghost use Rattle.grammar.specs.Kind.{Cmd, Select};
 ghost use Rattle.grammar.specs.Shape.{one, slot};
 ghost use Rattle.grammar.specs.Grammar.{shape, from, node, rootKinds};
 ghost use Rattle.tokens.specs.Tokens.{tokensOf};
-ghost use Rattle.pen.specs.Pen.{source, emit, Writes, Anywhere, Below, IfFlags};
+ghost use Rattle.tokens.specs.Tokens.{inEdition};
+ghost use Rattle.pen.specs.Pen.{sourceIn, emit, Writes, Anywhere, Below, IfFlags};
 ghost use Rattle.cmd.specs.Root.{explaining, plan, planning, formatJson, planningJson, lateClauses, RootRow, Rooted};
 use clause::column::column_definition;
 use clause::column::pair;
@@ -56,6 +57,7 @@ use grammar::kind::UPSERT_NOTHING;
 use grammar::kind::USING;
 use grammar::kind::VALUES;
 use grammar::kind::WITH;
+use mode::Edition;
 use parts::comma_if;
 use parts::run;
 use pen::Pen;
@@ -138,13 +140,14 @@ fn cmd(
     text: &[u8],
     left: usize,
     flags: u16,
+    edition: Edition,
 ) -> Pen
-    ensures { λ q. ⌜ ((r : Record') → flags ≡ r .flags → Writes (source (now (tree .entry)) (now (text .entry))) (now (pool .entry)) left r (shape Cmd) (p, now (out .entry)) (q, now (out .exit))) ⌝ }
+    ensures { λ q. ⌜ ((r : Record') → flags ≡ r .flags → Writes (sourceIn (now (tree .entry)) (now (text .entry)) edition) (now (pool .entry)) left r (shape Cmd) (p, now (out .entry)) (q, now (out .exit))) ⌝ }
 {
     let q = explain(p, out, pool, flags);
     let q = explain_query_plan(q, out, pool, flags);
     let q = explain_json(q, out, pool, flags);
-    let q = stmt(q, out, pool, tree, text, left);
+    let q = stmt(q, out, pool, tree, text, left, edition);
     word(q, out, pool, TK_SEMI)
 }
 
@@ -156,8 +159,9 @@ fn clause_to_as_select(
     tree: &[u8],
     text: &[u8],
     left: usize,
+    edition: Edition,
 ) -> Pen
-    ensures { λ q. ⌜ Below (source (now (tree .entry)) (now (text .entry))) (now (pool .entry)) left (slot (node (from Select 20))) (p, now (out .entry)) (q, now (out .exit)) ⌝ }
+    ensures { λ q. ⌜ Below (sourceIn (now (tree .entry)) (now (text .entry)) edition) (now (pool .entry)) left (slot (node (from Select 20))) (p, now (out .entry)) (q, now (out .exit)) ⌝ }
 {
     let r = record::read(tree, p.next);
     if r.kind < SELECT {
@@ -191,7 +195,7 @@ fn clause_to_as_select(
         return alter_table_body(p, out, pool, tree, text, left);
     }
     if r.kind <= AS_SELECT {
-        return create_table_body(p, out, pool, tree, text, left);
+        return create_table_body(p, out, pool, tree, text, left, edition);
     }
     run(p, out, pool, tree, text)
 }
@@ -204,8 +208,9 @@ fn clause_to_named_table_constraint(
     tree: &[u8],
     text: &[u8],
     left: usize,
+    edition: Edition,
 ) -> Pen
-    ensures { λ q. ⌜ Below (source (now (tree .entry)) (now (text .entry))) (now (pool .entry)) left (slot (node lateClauses)) (p, now (out .entry)) (q, now (out .exit)) ⌝ }
+    ensures { λ q. ⌜ Below (sourceIn (now (tree .entry)) (now (text .entry)) edition) (now (pool .entry)) left (slot (node lateClauses)) (p, now (out .entry)) (q, now (out .exit)) ⌝ }
 {
     let r = record::read(tree, p.next);
     if r.kind < COLUMN_DEFINITION {
@@ -233,7 +238,7 @@ fn clause_to_named_table_constraint(
         return with_clause(p, out, pool, tree, text, left);
     }
     if r.kind <= CUSTOM_TYPE {
-        return create_type_body(p, out, pool, tree, text, left);
+        return create_type_body(p, out, pool, tree, text, left, edition);
     }
     if r.kind <= TYPE_FIELD {
         return type_field(p, out, pool, tree, text, left);
@@ -242,7 +247,7 @@ fn clause_to_named_table_constraint(
         return type_param(p, out, pool, tree, text, left);
     }
     if r.kind <= OPERATOR_CLAUSE {
-        return operator_clause(p, out, pool, tree, text, left);
+        return operator_clause(p, out, pool, tree, text, left, edition);
     }
     if r.kind <= DOMAIN_CONSTRAINT {
         return domain_constraint(p, out, pool, tree, text, left);
@@ -254,17 +259,25 @@ fn clause_to_named_table_constraint(
 }
 
 // What may stand in a root LIST: a RUN, a statement or a clause.
-fn root_element(p: Pen, out: &mut [u8], pool: &[u8], tree: &[u8], text: &[u8], left: usize) -> Pen
-    ensures { λ q. ⌜ Below (source (now (tree .entry)) (now (text .entry))) (now (pool .entry)) left (slot (one rootKinds)) (p, now (out .entry)) (q, now (out .exit)) ⌝ }
+fn root_element(
+    p: Pen,
+    out: &mut [u8],
+    pool: &[u8],
+    tree: &[u8],
+    text: &[u8],
+    left: usize,
+    edition: Edition,
+) -> Pen
+    ensures { λ q. ⌜ Below (sourceIn (now (tree .entry)) (now (text .entry)) edition) (now (pool .entry)) left (slot (one rootKinds)) (p, now (out .entry)) (q, now (out .exit)) ⌝ }
 {
     let r = record::read(tree, p.next);
     if r.kind < SELECT {
-        return stmt(p, out, pool, tree, text, left);
+        return stmt(p, out, pool, tree, text, left, edition);
     }
     if r.kind < COLUMN_DEFINITION {
-        return clause_to_as_select(p, out, pool, tree, text, left);
+        return clause_to_as_select(p, out, pool, tree, text, left, edition);
     }
-    clause_to_named_table_constraint(p, out, pool, tree, text, left)
+    clause_to_named_table_constraint(p, out, pool, tree, text, left, edition)
 }
 
 // So many elements of a root LIST, with commas between them.
@@ -276,15 +289,16 @@ fn root_elements(
     text: &[u8],
     left: usize,
     n: u16,
+    edition: Edition,
 ) -> Pen
-    ensures { λ q. ⌜ RootRow (source (now (tree .entry)) (now (text .entry))) (now (pool .entry)) left n (p, now (out .entry)) (q, now (out .exit)) ⌝ }
+    ensures { λ q. ⌜ RootRow (inEdition (now (tree .entry)) (now (text .entry)) edition) (now (pool .entry)) left n (p, now (out .entry)) (q, now (out .exit)) ⌝ }
 {
     let mut q = p;
     let mut rest = n;
     let mut lead = false;
     while 0 < rest {
         q = comma_if(q, out, pool, lead);
-        q = root_element(q, out, pool, tree, text, left);
+        q = root_element(q, out, pool, tree, text, left, edition);
         lead = true;
         rest -= 1;
     }
@@ -292,25 +306,32 @@ fn root_elements(
 }
 
 // The root: Cmd, a LIST with commas, a RUN, a statement or a clause.
-fn root(p: Pen, out: &mut [u8], pool: &[u8], tree: &[u8], text: &[u8]) -> Pen
-    ensures { λ q. ⌜ Rooted (source (now (tree .entry)) (now (text .entry))) (now (pool .entry)) 64 (p, now (out .entry)) (q, now (out .exit)) ⌝ }
+fn root(p: Pen, out: &mut [u8], pool: &[u8], tree: &[u8], text: &[u8], edition: Edition) -> Pen
+    ensures { λ q. ⌜ Rooted (inEdition (now (tree .entry)) (now (text .entry)) edition) (now (pool .entry)) 64 (p, now (out .entry)) (q, now (out .exit)) ⌝ }
 {
     let r = record::read(tree, p.next);
     let q = pass(p, tree);
     if r.kind == LIST {
-        return root_elements(q, out, pool, tree, text, DEEPEST, r.kids);
+        return root_elements(q, out, pool, tree, text, DEEPEST, r.kids, edition);
     }
     if r.kind == CMD {
-        return cmd(q, out, pool, tree, text, DEEPEST - 1, r.flags);
+        return cmd(q, out, pool, tree, text, DEEPEST - 1, r.flags, edition);
     }
-    root_element(p, out, pool, tree, text, DEEPEST)
+    root_element(p, out, pool, tree, text, DEEPEST, edition)
 }
 
 // The tokens of a tree, written from its root on.
-pub fn to_tokens(s: Sink, out: &mut [u8], pool: &[u8], tree: &[u8], text: &[u8]) -> Sink
-    ensures { λ r. ⌜ (r, now (out .exit)) ≡ emit (now (pool .entry)) (s, now (out .entry)) (tokensOf (source (now (tree .entry)) (now (text .entry)))) ⌝ }
+pub fn to_tokens(
+    s: Sink,
+    out: &mut [u8],
+    pool: &[u8],
+    tree: &[u8],
+    text: &[u8],
+    edition: Edition,
+) -> Sink
+    ensures { λ r. ⌜ (r, now (out .exit)) ≡ emit (now (pool .entry)) (s, now (out .entry)) (tokensOf (inEdition (now (tree .entry)) (now (text .entry)) edition)) ⌝ }
 {
     let p = Pen { sink: s, next: 0 };
-    let q = root(p, out, pool, tree, text);
+    let q = root(p, out, pool, tree, text, edition);
     q.sink
 }

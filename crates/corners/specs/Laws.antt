@@ -5,36 +5,41 @@ use native.Mathlib.Nat.{not-suc-le-zero}
 use native.Mathlib.Numerals.{sub-one}
 use mathlib.Core.Path.{_≡_, refl, _∙_, sym}
 use mathlib.Core.List.{List, [], _∷_, _++_}
-use mathlib.Core.Bool.{Bool, true, false, not, _&&_, _||_, false≢true}
+use mathlib.Core.Bool.{Bool, true, false, cond, not, _&&_, _||_, false≢true, or-true}
 use lib.Dec.{eqb, ltb}
 use lib.ListN.{length, getD, take, drop, replicate, length-append, length-drop}
 use lib.Seq.{take-append-seam, drop-cons}
 use lib.IntN.{ℤ}
-use borrow.Author.Tests.{ne-eqb, lt-ltb}
+use borrow.Author.Tests.{eq-eqb, ne-eqb, eqb-true, lt-ltb}
 use Rattle.decimal.specs.Decimal as decimal
 use Rattle.decimal.specs.Spells.{Spells}
 use Rattle.decimal.specs.declared.Decimal.{Decimal}
 use Rattle.white.specs.Parts.{parts, splitOf}
 use Rattle.white.specs.declared.Parts.{Parts}
+use Rattle.mode.specs.declared.Edition.{Edition}
+use Rattle.mode.specs.declared.Edition.the-variants.{Crate, Sqlite}
+use Rattle.mode.specs.Options.{isSqlite}
 use Rattle.record.specs.Record.{recordAt, numberOf}
 use Rattle.record.specs.declared.Record.{Record}
 use Rattle.record.specs.Laws.{nothing as blank}
-use Rattle.grammar.specs.Kind.{NUMBER, TEXT}
-use Rattle.grammar.specs.Shape.{Shape, slot, decimal, brackets, quoted, rowid, source}
-use Rattle.grammar.specs.Grammar.{run}
+use Rattle.grammar.specs.Kind.{NONE, NUMBER, TEXT}
+use Rattle.grammar.specs.Shape.{Shape, slot, decimal, brackets, quoted, rowid, source, both}
+use Rattle.grammar.specs.Grammar.{run, text, maybe}
+use Rattle.grammar.specs.Slots.{allowed}
 use Rattle.spelling.specs.Token.{TK-STRING, TK-WITHOUT, TK-LBRACKET, TK-RBRACKET}
 use Rattle.stream.specs.Stream.{Token, some}
-use Rattle.stream.specs.Sink.{between}
-use Rattle.tokens.specs.Corners.{bare, valued, id, newline, secondPart, without, dashes, sourced, quote, pairs}
+use Rattle.stream.specs.Sink.{between, doubled}
+use Rattle.tokens.specs.Corners.{bare, valued, id, newline, secondPart, without, dashes, sourced, inner, quote, pairs}
 use Rattle.tokens.specs.Tokens as tokens
-use Rattle.tokens.specs.Tokens.{Out, at, behind, part, say, of, placed, checked, means}
+use Rattle.tokens.specs.Tokens.{Out, comma, at, behind, anything, say, of, placed, checked, means}
 use Rattle.pen.specs.declared.Pen.{Pen}
 use Rattle.pen.specs.Pen as pen
 use Rattle.pen.specs.Pen.{Spot, Past, emit, put, Puts, Says, Writes}
-use Rattle.pen.specs.Laws.{puts-on, puts-next}
+use Rattle.pen.specs.Laws.{in-one, puts-on, puts-next}
+use Rattle.pen.specs.Rows.{opt, nothing}
 use Rattle.pen.specs.Unique.{writes-unique}
-use Rattle.pen.specs.Places.{index, entered}
-use Rattle.parts.specs.Laws.{of-this}
+use Rattle.pen.specs.Places.{index, entered, node-text, node-none, optional}
+use Rattle.parts.specs.Laws.{of-other, of-this}
 
 -- of a tree, whatever its text is
 abbrev pub Textless : List ℕ → List ℕ → Shape → Spot → Spot → Type 0
@@ -96,23 +101,38 @@ few (a ∷ b ∷ y) h = absurd (omega arith)
 pub dashes-end : (x : List ℕ) (i : ℕ) → 1 ≤ i → length x ≤ i → dashes (drop (i - 1) x) ≡ false
 dashes-end x i h l = few (drop (i - 1) x) (simp length-drop (omega arith))
 
+-- the text between the quotes, by the code's test of the edition
+pub inner-doubled : (c : Edition) (b : Bool) (x : List ℕ) → b ≡ isSqlite c → b ≡ true → inner c x ≡ doubled x
+unfolding inner
+inner-doubled Crate b x e h = absurd (false≢true (sym e ∙ h))
+inner-doubled Sqlite b x e h = refl
+
+pub inner-single : (c : Edition) (b : Bool) (x : List ℕ) → b ≡ isSqlite c → b ≡ false → inner c x ≡ x
+unfolding inner
+inner-single Crate b x e h = refl
+inner-single Sqlite b x e h = absurd (false≢true (sym h ∙ e))
+
 -- ---- what each function writes
 module _ {t w o : List ℕ} {d : ℕ} {r k : Record} {p q : Pen} {b : Spot} (x : List ℕ) (read : k ≡ recordAt t (p .next)) (past : Past t p q) where
   pub a-number : {z : ℤ} → k .kind ≡ NUMBER → z ≡ numberOf k → Says w (id (decimal.decimal z) ∷ []) (q, o) b → Writes (pen.source t x) w d r decimal (p, o) b
   unfolding means
-  a-number m is h = record { puts = of-this x NUMBER read past (λ n. id (decimal.decimal (numberOf n)) ∷ []) m (rw is at h) }
+  a-number m is h = record { puts = λ u. of-this x NUMBER read past (λ u n. id (decimal.decimal (numberOf n)) ∷ []) m u (rw is at h) }
 
   pub some-pairs : {n : ℕ} → k .kind ≡ NUMBER → n ≡ min (k .start) 255 → Says w (pairs n) (q, o) b → Writes (pen.source t x) w d r brackets (p, o) b
   unfolding means
-  some-pairs z is h = record { puts = of-this x NUMBER read past (λ n. pairs (min (n .start) 255)) z (rw is at h) }
+  some-pairs z is h = record { puts = λ u. of-this x NUMBER read past (λ u n. pairs (min (n .start) 255)) z u (rw is at h) }
 
-  pub a-quote : {v : List ℕ} → k .kind ≡ TEXT → v ≡ part (pen.source t x) k → Says w (valued TK-STRING (between v) ∷ []) (q, o) b → Writes (pen.source t x) w d r quoted (p, o) b
+  pub a-quote : {v : List ℕ} {c : Edition} → k .kind ≡ TEXT → v ≡ take (k .len) (drop (k .start) x) → Says w (valued TK-STRING (between (inner c v)) ∷ []) (q, o) b → Writes (pen.sourceIn t x c) w d r quoted (p, o) b
   unfolding means quote
-  a-quote z is h = record { puts = of-this x TEXT read past (λ n. quote (part (pen.source t x) n) ∷ []) z (rw is at h) }
+  a-quote {c = c} z is h = record { puts = λ u. of-this x TEXT read past (λ u n. quote c (take (n .len) (drop (n .start) x)) ∷ []) z c (rw is at h) }
 
-  pub a-rowid : {v : List ℕ} → k .kind ≡ TEXT → v ≡ part (pen.source t x) k → Says w (without v) (q, o) b → Writes (pen.source t x) w d r rowid (p, o) b
+  pub a-rowid : {v : List ℕ} → k .kind ≡ TEXT → v ≡ take (k .len) (drop (k .start) x) → Says w (without v) (q, o) b → Writes (pen.source t x) w d r rowid (p, o) b
   unfolding means
-  a-rowid z is h = record { puts = of-this x TEXT read past (λ n. without (part (pen.source t x) n)) z (rw is at h) }
+  a-rowid z is h = record { puts = λ u. of-this x TEXT read past (λ u n. without (take (n .len) (drop (n .start) x))) z u (rw is at h) }
+
+pub no-quote : {t w o : List ℕ} {c : Edition} {d : ℕ} {r k : Record} {p q : Pen} (x : List ℕ) → k ≡ recordAt t (p .next) → Past t p q → (k .kind ≡ TEXT → ⊥) → Writes (pen.sourceIn t x c) w d r quoted (p, o) (q, o)
+unfolding means
+no-quote {t} {c = c} {p = p} x read past z = record { puts = λ u. of-other x TEXT read past (λ u. quote u (take (recordAt t (p .next) .len) (drop (recordAt t (p .next) .start) x)) ∷ []) z c }
 
 -- the without-rowid text
 pub not-two : {w : List ℕ} {a : Spot} (v : List ℕ) (m : Parts) → m ≡ splitOf v → (m .count ≡ 2 → ⊥) → Says w (without v) a a
@@ -137,38 +157,89 @@ unfolding sourced
 with-dashes s e z p q = rw (← e, z) (says-then p q)
 
 -- the pen passes over one more record
-puts-past : {t w : List ℕ} {z : Out} {a b : Spot} {q : Pen} (x : List ℕ) → Puts w z a b → Past t (b .0) q → Puts w (of (pen.source t x) (z .next) (z .tokens)) a (q, b .1)
+puts-past : {t w : List ℕ} {z : Out} {a b : Spot} {q : Pen} (x : List ℕ) (u : Edition) → Puts w z a b → Past t (b .0) q → Puts w (of (tokens.inEdition t x u) (z .next) (z .tokens)) a (q, b .1)
 unfolding put behind
-puts-past {t} {w} {z} {a} {b} {q} x h past =
+puts-past {t} {w} {z} {a} {b} {q} x u h past =
     let past′ : Past t (put w z a .0) q = rw (h .is) at past in
     record { is = rw (h .is, ← past′ .sink, ← past′ .next) }
 
 -- k is the record behind the expression
 module _ {t w n : List ℕ} {d : ℕ} {r k : Record} {p e : Pen} (x : List ℕ) (skim : Writes (pen.source t x) w d r (slot run) (p, []) (e, n)) (read : k ≡ recordAt t (e .next)) where
-  behind-run : e .next ≡ placed (pen.source t x) (tokens.node (pen.source t x) d) run (p .next) .next
+  behind-run : (u : Edition) → e .next ≡ placed (tokens.inEdition t x u) (tokens.node (tokens.inEdition t x u) d) run (p .next) .next
   unfolding means
-  behind-run = puts-next (skim .puts)
+  behind-run u = puts-next (skim .puts u)
 
   pub the-run : {o : List ℕ} {b : Spot} {q : Pen} → (not (eqb (k .kind) TEXT) || eqb (k .len) 0) ≡ true → Writes (pen.source t x) w d r (slot run) (p, o) b → Past t (b .0) q
       → Writes (pen.source t x) w d r source (p, o) (q, b .1)
   unfolding means checked
   the-run {o} {b} {q} z h past =
-      let past′ : Puts w (of (pen.source t x) (e .next) (placed (pen.source t x) (tokens.node (pen.source t x) d) run (p .next) .tokens)) (p, o) (q, b .1) = rw behind-run (puts-past x (h .puts) past) in
-      record { puts = rw (← behind-run, ← read, no-source (eqb (k .kind) TEXT) (k .len) z) past′ }
+      let past′ : (u : Edition) → Puts w (of (tokens.inEdition t x u) (e .next) (placed (tokens.inEdition t x u) (tokens.node (tokens.inEdition t x u) d) run (p .next) .tokens)) (p, o) (q, b .1) = λ u. rw (behind-run u) (puts-past x u (h .puts u) past) in
+      record { puts = λ u. rw (← behind-run u, ← read, no-source (eqb (k .kind) TEXT) (k .len) z) (past′ u) }
     where
       no-source : (c : Bool) (m : ℕ) → (not c || eqb m 0) ≡ true → (c && ltb 0 m) ≡ false
       no-source false m y = refl
       no-source true zero y = refl
       no-source true (suc m) y = absurd (false≢true (sym (ne-eqb (suc m) 0 (λ f. omega arith)) ∙ y))
 
-  pub the-source : {o v : List ℕ} {b : Spot} {q : Pen} → (not (eqb (k .kind) TEXT) || eqb (k .len) 0) ≡ false → v ≡ part (pen.source t x) k
+  pub the-source : {o v : List ℕ} {b : Spot} {q : Pen} → (not (eqb (k .kind) TEXT) || eqb (k .len) 0) ≡ false → v ≡ take (k .len) (drop (k .start) x)
       → Past t (record { sink = p .sink; next = e .next }) q → Says w (sourced v) (q, o) b → Writes (pen.source t x) w d r source (p, o) b
   unfolding means checked put
   the-source {o} {v} {b} {q} z is past h =
-      let h′ : Puts w (of (pen.source t x) (e .next) (sourced v)) (record { sink = p .sink; next = e .next }, o) b = rw (← index past x) (entered past (h .puts)) in
-      record { puts = rw (← behind-run, ← read, a-source (eqb (k .kind) TEXT) (k .len) z, ← is) (record { is = h′ .is }) }
+      let h′ : (u : Edition) → Puts w (of (tokens.inEdition t x u) (e .next) (sourced v)) (record { sink = p .sink; next = e .next }, o) b = λ u. rw (← index past x u) (entered past (h .puts)) in
+      record { puts = λ u. rw (← behind-run u, ← read, a-source (eqb (k .kind) TEXT) (k .len) z, ← is) (record { is = h′ u .is }) }
     where
       a-source : (c : Bool) (m : ℕ) → (not c || eqb m 0) ≡ false → (c && ltb 0 m) ≡ true
       a-source false m y = absurd (false≢true (sym y))
       a-source true zero y = absurd (false≢true (sym y))
       a-source true (suc m) y = lt-ltb 0 (suc m) (omega arith)
+
+-- ---- the table options
+some-without : (x : List ℕ) → anything (without x) ≡ eqb (length (parts x)) 2
+unfolding anything without
+some-without x = by (eqb (length (parts x)) 2)
+  where
+    by : (b : Bool) → anything (cond b (bare TK-WITHOUT ∷ id (secondPart x) ∷ []) []) ≡ b
+    by true = refl
+    by false = refl
+
+module _ {t x w : List ℕ} {c : Edition} {d : ℕ} {r : Record} {s z : Shape} {a b f : Spot} where
+  -- m are the tokens that stand between the two
+  pub joined-on : {g : Spot} (m : List Token)
+      → m ≡ tokens.between c (means (tokens.inEdition t x c) (tokens.node (tokens.inEdition t x c) d) r s (a .0 .next) .tokens) (means (tokens.inEdition t x c) (tokens.node (tokens.inEdition t x c) d) r z (b .0 .next) .tokens)
+      → Writes (pen.sourceIn t x c) w d r s a b → Says w m b f → Writes (pen.sourceIn t x c) w d r z f g → Writes (pen.sourceIn t x c) w d r (both s z) a g
+  unfolding means
+  joined-on m e p q h =
+      let n = puts-next (p .puts c) in
+      record { puts = λ u. rw (rw n at e) at (puts-on (λ j. tokens.then (say m j) (means (tokens.inEdition t x c) (tokens.node (tokens.inEdition t x c) d) r z)) (p .puts c) (puts-on (means (tokens.inEdition t x c) (tokens.node (tokens.inEdition t x c) d) r z) (q .puts) (h .puts c))) }
+
+-- what the code finds of the first is whether it is written
+pub no-rowid : (k : Record) (x : List ℕ) → (k .kind ≡ TEXT → ⊥) → false ≡ anything (cond (eqb (k .kind) TEXT) (without (take (k .len) (drop (k .start) x))) [])
+unfolding anything
+no-rowid k x z = rw (ne-eqb (k .kind) TEXT z)
+
+pub a-rowid-written : (k : Record) {v : List ℕ} {m : Parts} (x : List ℕ) → k .kind ≡ TEXT → v ≡ take (k .len) (drop (k .start) x) → m ≡ splitOf v
+    → eqb (m .count) 2 ≡ anything (cond (eqb (k .kind) TEXT) (without (take (k .len) (drop (k .start) x))) [])
+unfolding splitOf
+a-rowid-written k {v} x z is e = rw (e, eq-eqb (k .kind) TEXT z, ← is) (sym (some-without v))
+
+-- and the second is where it is a TEXT
+second-written : (e : tokens.Source) (d j : ℕ) → anything (placed e (tokens.node e d) (maybe text) j .tokens) ≡ eqb (at e j .kind) TEXT
+unfolding placed allowed anything
+second-written e d j = by (eqb (at e j .kind) NONE) (eqb (at e j .kind) TEXT) refl refl
+  where
+    by : (m n : Bool) → eqb (at e j .kind) NONE ≡ m → eqb (at e j .kind) TEXT ≡ n → anything (cond (m || (n || false)) (tokens.node e d (at e j .kind) j) (of e j []) .tokens) ≡ n
+    by m true f g = rw (eqb-true (at e j .kind) TEXT g, node-text e d j, or-true m)
+    by true false f g = rw (eqb-true (at e j .kind) NONE f, node-none e d j)
+    by false false f g = refl
+
+pub options-plain : {t x w : List ℕ} {c : Edition} {d : ℕ} {r : Record} {a b g : Spot} → isSqlite c ≡ false → Writes (pen.source t x) w d r rowid a b
+    → Writes (pen.source t x) w d r (slot text) b g → Writes (pen.sourceIn t x c) w d r (both rowid (slot (maybe text))) a g
+unfolding tokens.between
+options-plain {c = c} z h i = joined-on [] (rw z) (in-one h) nothing (optional (in-one i))
+
+pub options-on : {t x w o : List ℕ} {c : Edition} {d : ℕ} {r k l : Record} {p : Pen} {b f g : Spot} {n : Bool} → k ≡ recordAt t (p .next) → Writes (pen.source t x) w d r rowid (p, o) b
+    → l ≡ recordAt t (b .0 .next) → isSqlite c ≡ true → n ≡ anything (cond (eqb (k .kind) TEXT) (without (take (k .len) (drop (k .start) x))) [])
+    → Says w (opt (n && eqb (l .kind) TEXT) comma) b f → Writes (pen.source t x) w d r (slot text) f g → Writes (pen.sourceIn t x c) w d r (both rowid (slot (maybe text))) (p, o) g
+unfolding means tokens.between
+options-on {t} {x} {c = c} {d} {r} {l = l} {p = p} {b = b} {n = n} read h read2 is it q i =
+    joined-on (opt (n && eqb (l .kind) TEXT) comma) (rw (is, it, read, read2, second-written (tokens.inEdition t x c) d (b .0 .next))) (in-one h) q (optional (in-one i))

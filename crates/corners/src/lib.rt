@@ -1,24 +1,38 @@
 // The corners kept from the crate (01, section 4), and the numbers.
 ghost use mathlib.Core.Path.{_≡_};
 ghost use mathlib.Core.List.{[], _∷_};
+ghost use mathlib.Core.Bool.{cond};
+ghost use lib.Dec.{eqb};
+ghost use lib.ListN.{take, drop};
+ghost use Rattle.grammar.specs.Kind.{TEXT as TEXT'};
+ghost use Rattle.tokens.specs.Tokens.{anything};
 ghost use Rattle.decimal.specs.Decimal.{decimal};
-ghost use Rattle.grammar.specs.Shape.{decimal as decimal', brackets, quoted as quoted', rowid as rowid', source as source'};
-ghost use Rattle.tokens.specs.Corners.{id, dashes as dashes', pairs as pairs', sourced as sourced'};
-ghost use Rattle.pen.specs.Pen.{source, Says, Always};
+ghost use Rattle.grammar.specs.Shape.{decimal as decimal', brackets, quoted as quoted', rowid as rowid', source as source', slot, both};
+ghost use Rattle.grammar.specs.Grammar.{text as text', maybe};
+ghost use Rattle.spelling.specs.Token.{TK-STRING};
+ghost use Rattle.stream.specs.Stream.{some};
+ghost use Rattle.stream.specs.Sink.{between, step};
+ghost use Rattle.tokens.specs.Corners.{id, inner, without, dashes as dashes', pairs as pairs', sourced as sourced'};
+ghost use Rattle.pen.specs.Pen.{source, sourceIn, Says, Always};
 ghost use Rattle.corners.specs.Laws.{Textless};
 use grammar::kind::NUMBER;
 use grammar::kind::TEXT;
+use mode::Edition;
+use parts::comma_if;
+use parts::name;
 use parts::part;
 use parts::run;
 use pen::Pen;
 use pen::append;
 use pen::pass;
 use pen::word;
+use record::Record;
 use spelling::token::TK_ID;
 use spelling::token::TK_LBRACKET;
 use spelling::token::TK_RBRACKET;
 use spelling::token::TK_STRING;
 use spelling::token::TK_WITHOUT;
+use stream::Sink;
 
 // The most dimensions of an array.
 const MOST_DIMENSIONS: u32 = 255;
@@ -81,9 +95,26 @@ pub fn dimensions(p: Pen, out: &mut [u8], pool: &[u8], tree: &[u8]) -> Pen
     pairs(q, out, pool, MOST_DIMENSIONS)
 }
 
-// The next record, a TEXT, as TK_STRING between quotes; quotes in it are not doubled.
-pub fn quoted(p: Pen, out: &mut [u8], pool: &[u8], tree: &[u8], text: &[u8]) -> Pen
-    ensures { λ q. ⌜ Always (source (now (tree .entry)) (now (text .entry))) (now (pool .entry)) quoted' (p, now (out .entry)) (q, now (out .exit)) ⌝ }
+// TK_STRING, whose fixed spelling is word, with a value between quotes: as it is, or its quotes doubled.
+fn in_edition(s: Sink, out: &mut [u8], word: &[u8], value: &[u8], edition: Edition) -> Sink
+    ensures { λ r. ⌜ (r, now (out .exit)) ≡ step (s, now (out .entry)) TK-STRING (now (word .entry)) (some (between (inner edition (now (value .entry))))) ⌝ }
+{
+    if mode::sqlite(edition) {
+        return stream::doubled(s, out, word, value);
+    }
+    stream::quoted(s, out, word, value)
+}
+
+// The next record, a TEXT, as TK_STRING between quotes; quotes in it are doubled in SQLite's edition alone.
+pub fn quoted(
+    p: Pen,
+    out: &mut [u8],
+    pool: &[u8],
+    tree: &[u8],
+    text: &[u8],
+    edition: Edition,
+) -> Pen
+    ensures { λ q. ⌜ Always (sourceIn (now (tree .entry)) (now (text .entry)) edition) (now (pool .entry)) quoted' (p, now (out .entry)) (q, now (out .exit)) ⌝ }
 {
     let r = record::read(tree, p.next);
     let q = pass(p, tree);
@@ -91,7 +122,7 @@ pub fn quoted(p: Pen, out: &mut [u8], pool: &[u8], tree: &[u8], text: &[u8]) -> 
         return q;
     }
     let value = part(text, r.start as usize, r.len as usize);
-    let s = stream::quoted(q.sink, out, spelling::of(pool, TK_STRING), value);
+    let s = in_edition(q.sink, out, spelling::of(pool, TK_STRING), value, edition);
     Pen {
         sink: s,
         next: q.next,
@@ -99,7 +130,7 @@ pub fn quoted(p: Pen, out: &mut [u8], pool: &[u8], tree: &[u8], text: &[u8]) -> 
 }
 
 // The next record, the without-rowid TEXT: if it has two parts, WITHOUT and the second, whatever the first is.
-pub fn rowid(p: Pen, out: &mut [u8], pool: &[u8], tree: &[u8], text: &[u8]) -> Pen
+fn rowid(p: Pen, out: &mut [u8], pool: &[u8], tree: &[u8], text: &[u8]) -> Pen
     ensures { λ q. ⌜ Always (source (now (tree .entry)) (now (text .entry))) (now (pool .entry)) rowid' (p, now (out .entry)) (q, now (out .exit)) ⌝ }
 {
     let r = record::read(tree, p.next);
@@ -115,6 +146,40 @@ pub fn rowid(p: Pen, out: &mut [u8], pool: &[u8], tree: &[u8], text: &[u8]) -> P
     let second = part(value, parts.start, parts.len);
     let q = word(q, out, pool, TK_WITHOUT);
     append(q, out, pool, TK_ID, true, second)
+}
+
+// Whether the without-rowid record is written.
+fn rowid_written(r: Record, text: &[u8]) -> bool
+    ensures { λ b. ⌜ b ≡ anything (cond (eqb (r .kind) TEXT') (without (take (r .len) (drop (r .start) (now (text .entry))))) []) ⌝ }
+{
+    if r.kind != TEXT {
+        return false;
+    }
+    let value = part(text, r.start as usize, r.len as usize);
+    let parts = white::split(value);
+    parts.count == TWO_PARTS
+}
+
+// The next records, the two options of a table: in SQLite's edition with a comma between them where both are written.
+pub fn options(
+    p: Pen,
+    out: &mut [u8],
+    pool: &[u8],
+    tree: &[u8],
+    text: &[u8],
+    edition: Edition,
+) -> Pen
+    ensures { λ q. ⌜ Always (sourceIn (now (tree .entry)) (now (text .entry)) edition) (now (pool .entry)) (both rowid' (slot (maybe text'))) (p, now (out .entry)) (q, now (out .exit)) ⌝ }
+{
+    let r = record::read(tree, p.next);
+    let q = rowid(p, out, pool, tree, text);
+    if !mode::sqlite(edition) {
+        return name(q, out, pool, tree, text);
+    }
+    let s = record::read(tree, q.next);
+    let comma = rowid_written(r, text) & (s.kind == TEXT);
+    let q = comma_if(q, out, pool, comma);
+    name(q, out, pool, tree, text)
 }
 
 // Whether a text contains `--`, in a literal too.

@@ -20,8 +20,9 @@ use Rattle.wire.specs.Lists.{CrossesAll, all-append}
 use Rattle.tree.specs.Check as tree
 use Rattle.tree.specs.declared.Answer.{Answer}
 use Rattle.tokens.specs.Tokens.{tokensOf as treeTokens}
-use Rattle.pen.specs.Pen.{source}
-use Rattle.render.specs.Render.{textFrom, refuses, rendered, outputAfter, Renders, numberOf, placeOf}
+use Rattle.mode.specs.declared.Mode.{Mode}
+use Rattle.tokens.specs.Tokens.{inEdition}
+use Rattle.render.specs.Render.{textIn, refuses, rendered, outputAfter, RendersIn, numberOf, placeOf}
 use Rattle.render.specs.declared.Outcome.{Outcome}
 use Rattle.render.specs.declared.Outcome.the-variants.{Done, Refused, NoRoom}
 use Rattle.kinyandoma.specs.Trees as Call
@@ -110,34 +111,34 @@ module _ {out : List ℕ} {ls : List Lent} {r′ out′ : List ℕ} (all : Cross
   pub crossed-case : {c : Case} → List·Memᴰ c cases → tokensOf ls ≡ c .0 → take (unpacked r′ .count) out′ ≡ c .1
   crossed-case m e = appended-case fresh-bytes (all-append all fits) m e
 
--- ---- render, where its number is 0
-module _ {t x out : List ℕ} {o : Outcome} {out′ : List ℕ} (renders : Renders t x out o out′) (success : numberOf o ≡ 0) where
-  outcome-is : o ≡ Done (length (textFrom t x))
+-- ---- render in any mode, where its number is 0
+module _ {m : Mode} {t x out : List ℕ} {o : Outcome} {out′ : List ℕ} (renders : RendersIn m t x out o out′) (success : numberOf o ≡ 0) where
+  outcome-is : o ≡ Done (length (textIn (m .edition) t x))
   unfolding rendered refuses
-  outcome-is = renders .answers ∙ by (refuses a) (ltb (length out) m) refl (ap numberOf (sym (renders .answers)) ∙ success)
+  outcome-is = renders .answers ∙ by (refuses a) (ltb (length out) n) refl (ap numberOf (sym (renders .answers)) ∙ success)
     where
       a : Answer
       a = renders .answer
 
-      m : ℕ
-      m = length (textFrom t x)
+      n : ℕ
+      n = length (textIn (m .edition) t x)
 
-      by : (b c : Bool) → refuses a ≡ b → numberOf (cond b (Refused a) (cond c (NoRoom m) (Done m))) ≡ 0 → cond b (Refused a) (cond c (NoRoom m) (Done m)) ≡ Done m
+      by : (b c : Bool) → refuses a ≡ b → numberOf (cond b (Refused a) (cond c (NoRoom n) (Done n))) ≡ 0 → cond b (Refused a) (cond c (NoRoom n) (Done n)) ≡ Done n
       by true c q z = absurd (false≢true (rw (eq-eqb (tree.numberOf a) 0 z) at q))
       by false true q z = absurd (omega arith)
       by false false q z = refl
 
   -- so many bytes as it says are the text of the tree
-  pub rendered-text : take (placeOf o) out′ ≡ textFrom t x
+  pub rendered-text : take (placeOf o) out′ ≡ textIn (m .edition) t x
   unfolding outputAfter
-  rendered-text = rw (renders .writes, outcome-is) (take-append-seam (textFrom t x) (drop (length (textFrom t x)) out))
+  rendered-text = rw (renders .writes, outcome-is) (take-append-seam (textIn (m .edition) t x) (drop (length (textIn (m .edition) t x)) out))
 
   -- demand 3: if its tokens are readable, the bytes are cut back into their lexemes
-  pub rendered-reads-back : {lexemes : List Lexed} → Readable (treeTokens (source t x)) lexemes → Cuts (take (placeOf o) out′) lexemes []
-  rendered-reads-back {lexemes} r = rw rendered-text (tree-gives-back (source t x) lexemes r)
+  pub rendered-reads-back : {lexemes : List Lexed} → Readable (treeTokens (inEdition t x (m .edition))) lexemes → Cuts (take (placeOf o) out′) lexemes []
+  rendered-reads-back {lexemes} r = rw rendered-text (tree-gives-back (inEdition t x (m .edition)) lexemes r)
 
 -- the same of kinyandoma_render, where its answer is below 2^32
-module _ {t x out : List ℕ} {answer : ℕ} {out′ : List ℕ} (c : Call.Renders t x out answer out′) (low : answer < 2 ^ 32) where
+module _ {m : Mode} {t x out : List ℕ} {answer : ℕ} {out′ : List ℕ} (c : Call.RendersIn m t x out answer out′) (low : answer < 2 ^ 32) where
   success : numberOf (c .outcome) ≡ 0
   unfolding Call.code
   success = omega (arith, c .answers)
@@ -146,8 +147,8 @@ module _ {t x out : List ℕ} {answer : ℕ} {out′ : List ℕ} (c : Call.Rende
   unfolding Call.code
   answer-is = omega (arith, c .answers, success)
 
-  pub call-text : take answer out′ ≡ textFrom t x
+  pub call-text : take answer out′ ≡ textIn (m .edition) t x
   call-text = rw answer-is (rendered-text (c .renders) success)
 
-  pub call-reads-back : {lexemes : List Lexed} → Readable (treeTokens (source t x)) lexemes → Cuts (take answer out′) lexemes []
+  pub call-reads-back : {lexemes : List Lexed} → Readable (treeTokens (inEdition t x (m .edition))) lexemes → Cuts (take answer out′) lexemes []
   call-reads-back r = rw answer-is (rendered-reads-back (c .renders) success r)

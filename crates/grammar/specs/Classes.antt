@@ -4,7 +4,7 @@ use mathlib.Core.Path.{_≡_, refl}
 use mathlib.Core.List.{List, [], _∷_}
 use lib.ListN.{getD}
 use Rattle.grammar.specs.Kind.{TOKEN, SelectBody, CompoundSelect, JoinedTable, On, Using, RenameTo, ColumnsAndConstraints, AsSelect, PrimaryKey, ForeignKeyClause, CommonTableExpr, Struct, Union, CustomType, TypeField, TypeParam, OperatorClause, DomainConstraint, Pair, NamedTableConstraint}
-use Rattle.grammar.specs.Shape.{Class, one, list, small, checkSource, ruled}
+use Rattle.grammar.specs.Shape.{Class, one, list, small, checkSource, withoutRowid, ruled}
 use Rattle.grammar.specs.Grammar.{from, run, text, number, node, maybe, statement, select, oneSelect, fromClause, selectTable, with, columnDefinition, conflict, typeName, rootKinds, root}
 
 unfoldable pub classes : List Class
@@ -59,10 +59,11 @@ classes =
     ∷ typeName  -- 47
     ∷ node (from PrimaryKey 4)  -- 48
     ∷ ruled checkSource  -- 49
+    ∷ ruled withoutRowid  -- 50
     ∷ []
 
 abbrev pub classesHeld : ℕ
-classesHeld = 50
+classesHeld = 51
 
 unfoldable pub classAt : ℕ → Class
 classAt n = getD classes n (one [])

@@ -13,7 +13,7 @@ use Rattle.laws.specs.Below.{below, at}
 use Rattle.laws.specs.Bytes.{same, equal}
 use Rattle.laws.specs.Tests.{and-left, and-right, and-both}
 use Rattle.grammar.specs.Kind.{LIST}
-use Rattle.grammar.specs.Shape.{Class, one, list, oneOr, small, Rule, checkSource, ruled, Shape, nothing}
+use Rattle.grammar.specs.Shape.{Class, one, list, oneOr, small, Rule, checkSource, withoutRowid, ruled, Shape, nothing}
 use Rattle.grammar.specs.Grammar.{table, lookup, shape}
 use Rattle.grammar.specs.Slots.{slotsOf, flagsBelow, allowed, elements}
 use Rattle.grammar.specs.Classes.{classes, classesHeld, classAt}
@@ -23,6 +23,9 @@ use Rattle.grammar.specs.Packed.{kindsHeld, bits, standsOf, sameRule, sa
 same-rule : (u v : Rule) → sameRule u v ≡ true → u ≡ v
 unfolding sameRule
 same-rule checkSource checkSource h = refl
+same-rule checkSource withoutRowid h = absurd (false≢true h)
+same-rule withoutRowid checkSource h = absurd (false≢true h)
+same-rule withoutRowid withoutRowid h = refl
 
 same-class : (c d : Class) → sameClass c d ≡ true → c ≡ d
 unfolding sameClass

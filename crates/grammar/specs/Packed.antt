@@ -7,7 +7,7 @@ use lib.ListN.{length}
 use Rattle.laws.specs.Bytes.{same}
 use Rattle.laws.specs.Little.{fromLittle}
 use Rattle.grammar.specs.Kind.{LIST}
-use Rattle.grammar.specs.Shape.{Class, one, list, oneOr, small, Rule, checkSource, ruled}
+use Rattle.grammar.specs.Shape.{Class, one, list, oneOr, small, Rule, checkSource, withoutRowid, ruled}
 use Rattle.grammar.specs.Grammar.{shape}
 use Rattle.grammar.specs.Slots.{slotsOf, flagsBelow, allowed, elements}
 use Rattle.grammar.specs.Classes.{classes, classesHeld, classAt}
@@ -28,6 +28,9 @@ standsOf k = bits (λ n. allowed (classAt n) k) 0 64
 -- ---- the number of a place
 unfoldable pub sameRule : Rule → Rule → Bool
 sameRule checkSource checkSource = true
+sameRule checkSource withoutRowid = false
+sameRule withoutRowid checkSource = false
+sameRule withoutRowid withoutRowid = true
 
 unfoldable pub sameClass : Class → Class → Bool
 sameClass (one xs) (one ys) = same xs ys

@@ -7,6 +7,7 @@ infixr 30 _·_
 -- a TEXT that a request of 02 has a rule for
 pub data Rule : Type 0 where
   checkSource : Rule  -- a CHECK's source (vii)
+  withoutRowid : Rule  -- the without-rowid text (viii)
 
 -- what may stand in a place (01, section 2)
 pub data Class : Type 0 where
@@ -40,5 +41,6 @@ pub data Shape : Type 0 where
   quoted : Shape  -- the next child, a TEXT, as TK_STRING between quotes
   rowid : Shape  -- the next child, the without-rowid TEXT or NONE (section 4)
   source : Shape  -- the next children, a CHECK's expression and its source TEXT or NONE (section 4)
+  both : Shape → Shape → Shape  -- one behind the other; in SQLite's edition with a comma between them where both are written
   later : Shape → Shape → Shape  -- held in this order, written in the other
   _·_ : Shape → Shape → Shape

@@ -5,7 +5,7 @@ use mathlib.Core.Bool.{Bool, _||_}
 use lib.Dec.{eqb}
 use Rattle.laws.specs.Among.{among}
 use Rattle.grammar.specs.Kind.{NONE, LIST, TEXT, NUMBER}
-use Rattle.grammar.specs.Shape.{Class, one, list, oneOr, small, checkSource, ruled, Shape, nothing, token, ident, word, said, line, when, is, slot, each, commas, row, lines, tuples, given, filled, replacing, decimal, brackets, quoted, rowid, source, later, _·_}
+use Rattle.grammar.specs.Shape.{Class, one, list, oneOr, small, checkSource, withoutRowid, ruled, Shape, nothing, token, ident, word, said, line, when, is, slot, each, commas, row, lines, tuples, given, filled, replacing, decimal, brackets, quoted, rowid, source, both, later, _·_}
 use Rattle.grammar.specs.Grammar.{run, text, number, maybe}
 
 -- the place of each child, in the order in which the children are held
@@ -30,8 +30,9 @@ slotsOf (replacing a b) = slotsOf b
 slotsOf decimal = maybe number ∷ []
 slotsOf brackets = small ∷ []
 slotsOf quoted = text ∷ []
-slotsOf rowid = maybe text ∷ []
+slotsOf rowid = ruled withoutRowid ∷ []
 slotsOf source = run ∷ ruled checkSource ∷ []
+slotsOf (both a b) = slotsOf a ++ slotsOf b
 slotsOf (later a b) = slotsOf a ++ slotsOf b
 slotsOf (a · b) = slotsOf a ++ slotsOf b
 
@@ -59,6 +60,7 @@ flagsBelow brackets = 1
 flagsBelow quoted = 1
 flagsBelow rowid = 1
 flagsBelow source = 1
+flagsBelow (both a b) = max (flagsBelow a) (flagsBelow b)
 flagsBelow (later a b) = max (flagsBelow a) (flagsBelow b)
 flagsBelow (a · b) = max (flagsBelow a) (flagsBelow b)
 

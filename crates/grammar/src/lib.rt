@@ -18,7 +18,7 @@ pub const SMALL: u8 = 4;
 pub const SLOTS: u16 = 0x100;
 
 // How many places there are, and the first number past all kinds.
-const PLACES: u8 = 50;
+const PLACES: u8 = 51;
 
 const KINDS_HELD: u16 = 121;
 
@@ -46,11 +46,11 @@ fn stands_held(kind: u16) -> u64
     ensures { λ r. ⌜ r ≡ standsOf kind ⌝ }
 {
     match kind {
-        0 => 0x200304021c100,
+        0 => 0x600304021c100,
         1 => 0x2a8615080602,
         2 => 0x8,
         3 => 0x1d569ead5f9e6,
-        4 => 0x2001000020000,
+        4 => 0x6001000020000,
         5 => 0x200010,
         6 => 0x0,
         7 => 0x0,
@@ -237,6 +237,7 @@ fn element_held(place: u8) -> u8
         47 => 0,
         48 => 0,
         49 => 0,
+        50 => 0,
         _ => 255,
     }
 }
@@ -496,7 +497,7 @@ fn places_held(kind: u16) -> u64
         95 => 0x2006,
         96 => 0x606,
         97 => 0x6,
-        98 => 0x24242221,
+        98 => 0x24322221,
         99 => 0xd,
         100 => 0x92506,
         101 => 0x809,

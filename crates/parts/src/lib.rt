@@ -7,7 +7,8 @@ ghost use Rattle.grammar.specs.Shape.{word as word', when, slot, commas as comm
 ghost use Rattle.grammar.specs.Grammar.{run as run', text as text', parens, clause as clause', on-conflict, if-not-exists};
 ghost use Rattle.spelling.specs.Token.{TK-IF, TK-EXISTS, TK-SEMI};
 ghost use Rattle.tokens.specs.Tokens.{rows, comma as comma'};
-ghost use Rattle.pen.specs.Pen.{source, Puts, Says, Always, Flag, Under};
+ghost use Rattle.mode.specs.declared.Edition.{Edition};
+ghost use Rattle.pen.specs.Pen.{sourceOf, source, Puts, Says, Always, Flag, Under};
 ghost use Rattle.pen.specs.Rows.{opt};
 ghost use Rattle.pen.specs.Places.{tokenAt};
 ghost use Rattle.parts.specs.Runs.{Runs, Lines, Tuples, SaidClause};
@@ -55,7 +56,7 @@ pub fn part(text: &[u8], start: usize, len: usize) -> &[u8]
 
 // The next record, a TOKEN.
 fn token(p: Pen, out: &mut [u8], pool: &[u8], tree: &[u8], text: &[u8]) -> Pen
-    ensures { λ q. ⌜ Puts (now (pool .entry)) (tokenAt (source (now (tree .entry)) (now (text .entry))) (p .next)) (p, now (out .entry)) (q, now (out .exit)) ⌝ }
+    ensures { λ q. ⌜ ((v : Edition) → Puts (now (pool .entry)) (tokenAt (sourceOf v (source (now (tree .entry)) (now (text .entry)))) (p .next)) (p, now (out .entry)) (q, now (out .exit))) ⌝ }
 {
     let r = record::read(tree, p.next);
     let q = pass(p, tree);
@@ -71,7 +72,7 @@ fn token(p: Pen, out: &mut [u8], pool: &[u8], tree: &[u8], text: &[u8]) -> Pen
 
 // So many TOKENs, one behind the other.
 fn tokens(p: Pen, out: &mut [u8], pool: &[u8], tree: &[u8], text: &[u8], n: u16) -> Pen
-    ensures { λ q. ⌜ Puts (now (pool .entry)) (rows (tokenAt (source (now (tree .entry)) (now (text .entry)))) [] [] n (p .next)) (p, now (out .entry)) (q, now (out .exit)) ⌝ }
+    ensures { λ q. ⌜ ((v : Edition) → Puts (now (pool .entry)) (rows (tokenAt (sourceOf v (source (now (tree .entry)) (now (text .entry))))) [] [] n (p .next)) (p, now (out .entry)) (q, now (out .exit))) ⌝ }
 {
     let mut q = p;
     let mut rest = n;

@@ -6,16 +6,41 @@ use mathlib.Core.List.{List, [], _∷_}
 use mathlib.Core.Bool.{Bool}
 use Rattle.laws.specs.Text.{ascii}
 use Rattle.spelling.specs.Table.{spellingIn}
+use Rattle.mode.specs.declared.Edition.{Edition}
 use Rattle.stream.specs.Stream.{Token}
 use Rattle.stream.specs.Sink.{State, step}
 use Rattle.record.specs.Record.{count}
 use Rattle.record.specs.declared.Record.{Record}
 use Rattle.grammar.specs.Shape.{Shape}
-use Rattle.tokens.specs.Tokens.{Source, Out, say, flagged, means, node}
+use Rattle.tokens.specs.Tokens.{Source, inEdition, Out, say, flagged, means, node}
 use Rattle.pen.specs.declared.Pen.{Pen}
 
-abbrev pub source : List ℕ → List ℕ → Source
-source t x = record { tree = t; text = x }
+-- the editions that a renderer's promise is for: every one, or the one that it is told
+pub data Scope : Type 0 where
+  every : Scope
+  only : Edition → Scope
+
+abbrev pub pick : Scope → Edition → Edition
+pick every v = v
+pick (only u) v = u
+
+-- what is lent to a renderer, and what it is in an edition
+pub record Lent : Type 0 where
+  pub tree : List ℕ
+  pub text : List ℕ
+  pub scope : Scope
+
+abbrev pub sourceOf : Edition → Lent → Source
+sourceOf v e = inEdition (e .tree) (e .text) (pick (e .scope) v)
+
+abbrev pub lent : List ℕ → List ℕ → Scope → Lent
+lent t x g = record { tree = t; text = x; scope = g }
+
+abbrev pub source : List ℕ → List ℕ → Lent
+source t x = lent t x every
+
+abbrev pub sourceIn : List ℕ → List ℕ → Edition → Lent
+sourceIn t x v = lent t x (only v)
 
 -- a pen and the bytes of the output
 abbrev pub Spot : Type 0
@@ -44,18 +69,18 @@ pub record Says (w : List ℕ) (ts : List Token) (a b : Spot) : Type 0 where
   pub puts : Puts w (say ts (a .0 .next)) a b
 
 -- from spot a to spot b a shape of record r is written, with d records below one another at most
-pub record Writes (e : Source) (w : List ℕ) (d : ℕ) (r : Record) (s : Shape) (a b : Spot) : Type 0 where
-  pub puts : Puts w (means e (node e d) r s (a .0 .next)) a b
+pub record Writes (e : Lent) (w : List ℕ) (d : ℕ) (r : Record) (s : Shape) (a b : Spot) : Type 0 where
+  pub puts : (v : Edition) → Puts w (means (sourceOf v e) (node (sourceOf v e) d) r s (a .0 .next)) a b
 
 -- whatever the tree, the depth and the record are; and whatever the depth and the record are
 abbrev pub Anywhere : List ℕ → Shape → Spot → Spot → Type 0
-Anywhere w s a b = (e : Source) (d : ℕ) (r : Record) → Writes e w d r s a b
+Anywhere w s a b = (e : Lent) (d : ℕ) (r : Record) → Writes e w d r s a b
 
-abbrev pub Always : Source → List ℕ → Shape → Spot → Spot → Type 0
+abbrev pub Always : Lent → List ℕ → Shape → Spot → Spot → Type 0
 Always e w s a b = (d : ℕ) (r : Record) → Writes e w d r s a b
 
 -- with d records below one another at most, whatever the record is
-abbrev pub Below : Source → List ℕ → ℕ → Shape → Spot → Spot → Type 0
+abbrev pub Below : Lent → List ℕ → ℕ → Shape → Spot → Spot → Type 0
 Below e w d s a b = (r : Record) → Writes e w d r s a b
 
 -- a flag bit that is read off a record's flags
@@ -64,11 +89,11 @@ Flag bit flags on = (r : Record) → flags ≡ r .flags → on ≡ flagged bit r
 
 -- under a flag bit of the record that is on or not: the shape is said for any bit
 abbrev pub Under : Bool → (ℕ → Shape) → List ℕ → Spot → Spot → Type 0
-Under on s w a b = (e : Source) (d : ℕ) (r : Record) (bit : ℕ) → on ≡ flagged bit r → Writes e w d r (s bit) a b
+Under on s w a b = (e : Lent) (d : ℕ) (r : Record) (bit : ℕ) → on ≡ flagged bit r → Writes e w d r (s bit) a b
 
 -- a shape of a record with these flags
 abbrev pub IfFlags : ℕ → Shape → List ℕ → Spot → Spot → Type 0
-IfFlags flags s w a b = (e : Source) (d : ℕ) (r : Record) → flags ≡ r .flags → Writes e w d r s a b
+IfFlags flags s w a b = (e : Lent) (d : ℕ) (r : Record) → flags ≡ r .flags → Writes e w d r s a b
 
 -- for bytes that are written as a text in an entry
 abbrev pub WithText : List ℕ → (String → Type 0) → Type 0

@@ -3,14 +3,15 @@ use Prim.Native.Nat.{ℕ}
 use mathlib.Core.Path.{_≡_, refl, _∙_, sym, ap}
 use mathlib.Core.List.{List, []}
 use mathlib.Core.Bool.{Bool, false}
+use Rattle.mode.specs.declared.Edition.the-variants.{Crate}
 use Rattle.stream.specs.Stream.{Token}
 use Rattle.stream.specs.declared.Sink.{Sink}
 use Rattle.record.specs.declared.Record.{Record}
 use Rattle.record.specs.Laws.{nothing as blank}
 use Rattle.grammar.specs.Shape.{Shape}
-use Rattle.tokens.specs.Tokens.{Source, Out}
+use Rattle.tokens.specs.Tokens.{Out}
 use Rattle.pen.specs.declared.Pen.{Pen}
-use Rattle.pen.specs.Pen.{source, Spot, Past, Puts, Says, Writes, Anywhere, Always, Below, Flag, Under}
+use Rattle.pen.specs.Pen.{Lent, source, Spot, Past, Puts, Says, Writes, Anywhere, Always, Below, Flag, Under}
 use Rattle.pen.specs.Flags.{bits, first-bit}
 
 module _ {w : List ℕ} {a b c : Spot} where
@@ -20,17 +21,17 @@ module _ {w : List ℕ} {a b c : Spot} where
   pub says-unique : {ts : List Token} → Says w ts a b → Says w ts a c → b ≡ c
   says-unique p q = puts-unique (p .puts) (q .puts)
 
-  pub writes-unique : {e : Source} {d : ℕ} {r : Record} {s : Shape} → Writes e w d r s a b → Writes e w d r s a c → b ≡ c
-  writes-unique p q = puts-unique (p .puts) (q .puts)
+  pub writes-unique : {e : Lent} {d : ℕ} {r : Record} {s : Shape} → Writes e w d r s a b → Writes e w d r s a c → b ≡ c
+  writes-unique p q = puts-unique (p .puts Crate) (q .puts Crate)
 
 module _ (w : List ℕ) (a b c : Spot) where
   pub anywhere-unique : (s : Shape) → Anywhere w s a b → Anywhere w s a c → b ≡ c
   anywhere-unique s p q = writes-unique (p (source [] []) 0 blank) (q (source [] []) 0 blank)
 
-  pub always-unique : (e : Source) (s : Shape) → Always e w s a b → Always e w s a c → b ≡ c
+  pub always-unique : (e : Lent) (s : Shape) → Always e w s a b → Always e w s a c → b ≡ c
   always-unique e s p q = writes-unique (p 0 blank) (q 0 blank)
 
-  pub below-unique : (e : Source) (d : ℕ) (s : Shape) → Below e w d s a b → Below e w d s a c → b ≡ c
+  pub below-unique : (e : Lent) (d : ℕ) (s : Shape) → Below e w d s a b → Below e w d s a c → b ≡ c
   below-unique e d s p q = writes-unique (p blank) (q blank)
 
   -- for any bit there is a record that has it or not

@@ -1,7 +1,6 @@
 // Prints the text of a tree that stands in two files (01, section 6): the text, or a refusal, or that they cannot be read.
 ghost use Rattle.io.specs.Counts.{Counts};
 use libc::STDOUT_FILENO;
-use mode::NO_OPTIONS;
 use render::Outcome;
 
 // One byte more than a tree or a text may have, so that one that is longer is seen to be.
@@ -57,10 +56,10 @@ fn print_refusal(o: Outcome) {
     io::write_all(STDOUT_FILENO, b"\n");
 }
 
-// Prints the text of a tree and nothing more, or the refusal.
-fn print_text(tree: &[u8], text: &[u8]) {
+// Prints the text of a tree with these options and nothing more, or the refusal.
+fn print_text(options: u32, tree: &[u8], text: &[u8]) {
     let mut out = [0u8; OUTPUT];
-    let outcome = render::render(mode::of(NO_OPTIONS), tree, text, &mut out);
+    let outcome = render::render(mode::of(options), tree, text, &mut out);
     match outcome {
         Outcome::Done(n) => {
             io::write_all(STDOUT_FILENO, &out[..n]);
@@ -70,8 +69,8 @@ fn print_text(tree: &[u8], text: &[u8]) {
     }
 }
 
-// Prints the text of the tree and the text that stand in the files of these names.
-pub fn print_files(tree_name: &[u8], text_name: &[u8]) {
+// Prints the text of the tree and the text that stand in the files of these names, with these options.
+pub fn print_files(options: u32, tree_name: &[u8], text_name: &[u8]) {
     let mut trees = [0u8; ROOM];
     let mut texts = [0u8; ROOM];
     let tree = read_file(tree_name, &mut trees);
@@ -82,5 +81,5 @@ pub fn print_files(tree_name: &[u8], text_name: &[u8]) {
     }
     let tree_len = tree.len;
     let text_len = text.len;
-    print_text(&trees[..tree_len], &texts[..text_len]);
+    print_text(options, &trees[..tree_len], &texts[..text_len]);
 }

@@ -9,6 +9,7 @@ use lib.Dec.{eqb, ltb}
 use lib.ListN.{length, getD, take, drop}
 use lib.Seq.{sets, sets-eq, length-sets, take-length, take-append-seam}
 use borrow.Author.Tests.{eqb-true, eq-eqb, ne-eqb, lt-ltb, le-ltb, ltb-false}
+use Rattle.mode.specs.declared.Edition.{Edition}
 use Rattle.mode.specs.declared.Mode.{Mode}
 use Rattle.spelling.specs.Table.{bytes}
 use Rattle.stream.specs.Sink.{State, most}
@@ -20,20 +21,21 @@ use Rattle.tree.specs.Bounds.{place-small, admitted-short, number-small as tree
 use Rattle.tree.specs.declared.Answer.{Answer}
 use Rattle.tokens.specs.Tokens.{tokensOf}
 use Rattle.tokens.specs.Bound.{text-fits}
-use Rattle.pen.specs.Pen.{source, emit}
+use Rattle.tokens.specs.Tokens.{inEdition}
+use Rattle.pen.specs.Pen.{emit}
 use Rattle.pen.specs.Emit.{fresh, text-counted, text-stored}
 use Rattle.render.specs.declared.Outcome.{Outcome}
 use Rattle.render.specs.declared.Outcome.the-variants.{Done, Refused, NoRoom}
-use Rattle.render.specs.Render.{textFrom, refuses, measured, rendered, outputAfter, MeasuresIn, RendersIn, Renders, numberOf, placeOf}
+use Rattle.render.specs.Render.{textIn, refuses, measured, rendered, outputAfter, MeasuresIn, RendersIn, Renders, numberOf, placeOf}
 use Rattle.render.specs.Steps.{counted, Writes, Drafted, Drafts}
 
 -- ---- the tokens of a tree, written by a fresh sink, are its text
-pub writes : (t x w out : List ℕ) (st : State) → w ≡ bytes → length out ≤ most → st ≡ emit w (fresh, out) (tokensOf (source t x)) → Writes t x out (st .0 .at) (st .1)
+pub writes : (v : Edition) (t x w out : List ℕ) (st : State) → w ≡ bytes → length out ≤ most → st ≡ emit w (fresh, out) (tokensOf (inEdition t x v)) → Writes v t x out (st .0 .at) (st .1)
 unfolding counted
-writes t x w out st pool room e =
+writes v t x w out st pool room e =
     record {
-      counts = ap (λ (s : State). s .0 .at) e ∙ text-counted w out (source t x) pool room;
-      stores = ap (λ (s : State). s .1) e ∙ text-stored w out (source t x) pool room;
+      counts = ap (λ (s : State). s .0 .at) e ∙ text-counted w out (inEdition t x v) pool room;
+      stores = ap (λ (s : State). s .1) e ∙ text-stored w out (inEdition t x v) pool room;
     }
 
 -- ---- the ways through measure, by the number of the check's answer
@@ -43,16 +45,16 @@ module _ {mode : Mode} {t x : List ℕ} {a : Answer} (c : ChecksIn mode t x a) (
   refused h = record { answer = a; checks = c; answers = rw (← is, ne-eqb m 0 h) }
 
   -- a text that is admitted is short
-  text-short : m ≡ 0 → ((k : ℕ) → getD t k 0 < 256) → length (textFrom t x) < 2 ^ 32
+  text-short : m ≡ 0 → ((k : ℕ) → getD t k 0 < 256) → length (textIn (mode .edition) t x) < 2 ^ 32
   text-short z inBytes =
       let s = admitted-short c (sym is ∙ z) in
-      text-fits (source t x) (record { tree = s .0; bytes = inBytes; text = s .1 })
+      text-fits (inEdition t x (mode .edition)) (record { tree = s .0; bytes = inBytes; text = s .1 })
 
   -- so the count is its length
-  pub measured-all : m ≡ 0 → ((k : ℕ) → getD t k 0 < 256) → (n : ℕ) → n ≡ counted t x → MeasuresIn mode t x (Done n)
+  pub measured-all : m ≡ 0 → ((k : ℕ) → getD t k 0 < 256) → (n : ℕ) → n ≡ counted (mode .edition) t x → MeasuresIn mode t x (Done n)
   unfolding measured refuses counted
   measured-all z inBytes n e =
-      let l = length (textFrom t x) in
+      let l = length (textIn (mode .edition) t x) in
       let s = text-short z inBytes in
       let q : n ≡ l = e ∙ count-fits 0 l (omega arith) ∙ zero-add l in
       record { answer = a; checks = c; answers = rw (← is, eq-eqb m 0 z, q) }
@@ -62,19 +64,19 @@ module _ {mode : Mode} {t x : List ℕ} where
   pub draft-refused : {a : Answer} {d : List ℕ} → MeasuresIn mode t x (Refused a) → Drafts mode t x (Refused a) d
   draft-refused m = record { measures = m; drafted = λ n e. let z : _≡_ {A = ℕ} 0 1 = cc in absurd (omega arith) }
 
-  pub draft-done : {n : ℕ} (d : List ℕ) {d′ : List ℕ} → MeasuresIn mode t x (Done n) → d′ ≡ sets d 0 (textFrom t x) → Drafts mode t x (Done n) d′
+  pub draft-done : {n : ℕ} (d : List ℕ) {d′ : List ℕ} → MeasuresIn mode t x (Done n) → d′ ≡ sets d 0 (textIn (mode .edition) t x) → Drafts mode t x (Done n) d′
   draft-done {n} d {d′} m e = record { measures = m; drafted = λ k q h. begins h }
     where
-      begins : Drafted t x d′
+      begins : Drafted (mode .edition) t x d′
       begins h =
-          let text = textFrom t x in
+          let text = textIn (mode .edition) t x in
           let l : length d′ ≡ length d = ap length e ∙ length-sets d 0 text in
           rw (e, sets-eq text d 0 (omega arith)) (take-append-seam text (drop (0 + length text) d))
 
-pub copied : (t x out d out′ : List ℕ) (n : ℕ) → n ≡ length (textFrom t x) → n ≤ length out → n ≤ length d → Drafted t x d
-    → out′ ≡ take n (take n d) ++ drop n out → out′ ≡ sets out 0 (textFrom t x)
-copied t x out d out′ n l h i begins e =
-    let text = textFrom t x in
+pub copied : (v : Edition) (t x out d out′ : List ℕ) (n : ℕ) → n ≡ length (textIn v t x) → n ≤ length out → n ≤ length d → Drafted v t x d
+    → out′ ≡ take n (take n d) ++ drop n out → out′ ≡ sets out 0 (textIn v t x)
+copied v t x out d out′ n l h i begins e =
+    let text = textIn v t x in
     rw (e, sets-eq text out 0 (omega arith), zero-add, l, begins (omega arith), take-length text)
 
 -- ---- the ways through render, by what measure comes to
@@ -84,17 +86,17 @@ module _ {mode : Mode} {t x : List ℕ} (out : List ℕ) where
   unfolding measured rendered outputAfter
   kept {o} other m = by (refuses (m .answer)) refl (m .answers)
     where
-      by : (b : Bool) → refuses (m .answer) ≡ b → o ≡ cond b (Refused (m .answer)) (Done (length (textFrom t x))) → RendersIn mode t x out o out
+      by : (b : Bool) → refuses (m .answer) ≡ b → o ≡ cond b (Refused (m .answer)) (Done (length (textIn (mode .edition) t x))) → RendersIn mode t x out o out
       by true q e = record { answer = m .answer; checks = m .checks; answers = rw (q, e); writes = rw e }
-      by false q e = absurd (other (length (textFrom t x)) e)
+      by false q e = absurd (other (length (textIn (mode .edition) t x)) e)
 
   module _ {n : ℕ} (m : MeasuresIn mode t x (Done n)) where
     -- the check passed, and the number is the length
-    admitted : (refuses (m .answer) ≡ false) × (n ≡ length (textFrom t x))
+    admitted : (refuses (m .answer) ≡ false) × (n ≡ length (textIn (mode .edition) t x))
     unfolding measured
     admitted = by (refuses (m .answer)) (m .answers)
       where
-        by : (b : Bool) → Done n ≡ cond b (Refused (m .answer)) (Done (length (textFrom t x))) → (b ≡ false) × (n ≡ length (textFrom t x))
+        by : (b : Bool) → Done n ≡ cond b (Refused (m .answer)) (Done (length (textIn (mode .edition) t x))) → (b ≡ false) × (n ≡ length (textIn (mode .edition) t x))
         by true e = let z : _≡_ {A = ℕ} 0 1 = cc in absurd (omega arith)
         by false e = (refl, cc)
 
@@ -105,30 +107,30 @@ module _ {mode : Mode} {t x : List ℕ} (out : List ℕ) where
         record { answer = m .answer; checks = m .checks; answers = rw (p .0, ← p .1, lt-ltb (length out) n h); writes = refl }
 
     -- the number is the length
-    pub length-is : n ≡ length (textFrom t x)
+    pub length-is : n ≡ length (textIn (mode .edition) t x)
     length-is = admitted .1
 
-    pub written : {out′ : List ℕ} → n ≤ length out → out′ ≡ sets out 0 (textFrom t x) → RendersIn mode t x out (Done n) out′
+    pub written : {out′ : List ℕ} → n ≤ length out → out′ ≡ sets out 0 (textIn (mode .edition) t x) → RendersIn mode t x out (Done n) out′
     unfolding rendered outputAfter
     written h w =
         let p = admitted in
-        let fits : length (textFrom t x) ≤ length out = omega (arith, p .1) in
+        let fits : length (textIn (mode .edition) t x) ≤ length out = omega (arith, p .1) in
         record {
           answer = m .answer;
           checks = m .checks;
           answers = rw (p .0, ← p .1, le-ltb (length out) n h);
-          writes = rw (p .1, w, sets-eq (textFrom t x) out 0 (omega arith), zero-add);
+          writes = rw (p .1, w, sets-eq (textIn (mode .edition) t x) out 0 (omega arith), zero-add);
         }
 
 -- ---- no two outcomes satisfy the contract
 pub measures-unique : (mode : Mode) (t x : List ℕ) (o p : Outcome) → MeasuresIn mode t x o → MeasuresIn mode t x p → o ≡ p
 measures-unique mode t x o p f g =
     let q = whole.unique mode t x (f .answer) (g .answer) (f .checks) (g .checks) in
-    f .answers ∙ ap (λ (a : Answer). measured a (textFrom t x)) q ∙ sym (g .answers)
+    f .answers ∙ ap (λ (a : Answer). measured a (textIn (mode .edition) t x)) q ∙ sym (g .answers)
 
 pub renders-unique : (mode : Mode) (t x out : List ℕ) (o p : Outcome) (l m : List ℕ) → RendersIn mode t x out o l → RendersIn mode t x out p m → (o ≡ p) × (l ≡ m)
 renders-unique mode t x out o p l m f g =
-    let text = textFrom t x in
+    let text = textIn (mode .edition) t x in
     let q = whole.unique mode t x (f .answer) (g .answer) (f .checks) (g .checks) in
     let s : o ≡ p = f .answers ∙ ap (λ (a : Answer). rendered a (length out) text) q ∙ sym (g .answers) in
     (s, f .writes ∙ ap (λ (u : Outcome). outputAfter u text out) s ∙ sym (g .writes))
@@ -153,7 +155,7 @@ Small o = placeOf o < 2 ^ 32
 
 module _ {mode : Mode} {t x : List ℕ} {a : Answer} (c : ChecksIn mode t x a) (inBytes : (k : ℕ) → getD t k 0 < 256) where
   -- the check's refusal, or what an admitted text comes to
-  refused-or : (o : Outcome) → (length (textFrom t x) < 2 ^ 32 → Small o) → Small (cond (refuses a) (Refused a) o)
+  refused-or : (o : Outcome) → (length (textIn (mode .edition) t x) < 2 ^ 32 → Small o) → Small (cond (refuses a) (Refused a) o)
   unfolding refuses
   refused-or o h = by (eqb (tree.numberOf a) 0) refl
     where
@@ -161,15 +163,15 @@ module _ {mode : Mode} {t x : List ℕ} {a : Answer} (c : ChecksIn mode t x a) (
       by true e = h (text-short c (tree.numberOf a) refl (eqb-true (tree.numberOf a) 0 e) inBytes)
       by false e = omega (arith, place-small c)
 
-  measured-small : Small (measured a (textFrom t x))
+  measured-small : Small (measured a (textIn (mode .edition) t x))
   unfolding measured
-  measured-small = refused-or (Done (length (textFrom t x))) (λ h. h)
+  measured-small = refused-or (Done (length (textIn (mode .edition) t x))) (λ h. h)
 
-  rendered-small : (size : ℕ) → Small (rendered a size (textFrom t x))
+  rendered-small : (size : ℕ) → Small (rendered a size (textIn (mode .edition) t x))
   unfolding rendered
-  rendered-small size = refused-or _ (λ h. by h (ltb size (length (textFrom t x))))
+  rendered-small size = refused-or _ (λ h. by h (ltb size (length (textIn (mode .edition) t x))))
     where
-      by : length (textFrom t x) < 2 ^ 32 → (b : Bool) → Small (cond b (NoRoom (length (textFrom t x))) (Done (length (textFrom t x))))
+      by : length (textIn (mode .edition) t x) < 2 ^ 32 → (b : Bool) → Small (cond b (NoRoom (length (textIn (mode .edition) t x))) (Done (length (textIn (mode .edition) t x))))
       by h true = h
       by h false = h
 
@@ -182,10 +184,10 @@ renders-small {mode} {t} {x} {out} b m = rw (m .answers) (rendered-small (m .che
 -- ---- what was written fits the output
 pub done-fits : {mode : Mode} {t x out out′ : List ℕ} {n : ℕ} → RendersIn mode t x out (Done n) out′ → n ≤ length out
 unfolding rendered
-done-fits {mode} {t} {x} {out} {out′} {n} r = by (refuses (r .answer)) (ltb (length out) (length (textFrom t x))) refl (r .answers)
+done-fits {mode} {t} {x} {out} {out′} {n} r = by (refuses (r .answer)) (ltb (length out) (length (textIn (mode .edition) t x))) refl (r .answers)
   where
-    by : (a b : Bool) → ltb (length out) (length (textFrom t x)) ≡ b
-        → Done n ≡ cond a (Refused (r .answer)) (cond b (NoRoom (length (textFrom t x))) (Done (length (textFrom t x)))) → n ≤ length out
+    by : (a b : Bool) → ltb (length out) (length (textIn (mode .edition) t x)) ≡ b
+        → Done n ≡ cond a (Refused (r .answer)) (cond b (NoRoom (length (textIn (mode .edition) t x))) (Done (length (textIn (mode .edition) t x)))) → n ≤ length out
     by true b q e = let z : _≡_ {A = ℕ} 0 1 = cc in absurd (omega arith)
     by false true q e = let z : _≡_ {A = ℕ} 0 1 = cc in absurd (omega arith)
-    by false false q e = let z : n ≡ length (textFrom t x) = cc in omega (arith, ltb-false (length out) (length (textFrom t x)) q)
+    by false false q e = let z : n ≡ length (textIn (mode .edition) t x) = cc in omega (arith, ltb-false (length out) (length (textIn (mode .edition) t x)) q)

@@ -7,18 +7,23 @@ use lib.Dec.{eqb, ltb}
 use lib.ListN.{length, drop}
 use Rattle.laws.specs.First.{first}
 use Rattle.mode.specs.Options.{plain}
+use Rattle.mode.specs.declared.Edition.{Edition}
+use Rattle.mode.specs.declared.Edition.the-variants.{Crate}
 use Rattle.mode.specs.declared.Mode.{Mode}
 use Rattle.tree.specs.Check as tree
 use Rattle.tree.specs.Check.{ChecksIn}
 use Rattle.tree.specs.declared.Answer.{Answer}
 use Rattle.tokens.specs.Tokens.{textOf}
-use Rattle.pen.specs.Pen.{source}
+use Rattle.tokens.specs.Tokens.{inEdition}
 use Rattle.render.specs.declared.Outcome.{Outcome}
 use Rattle.render.specs.declared.Outcome.the-variants.{Done, Refused, NoRoom}
 
--- the text of a tree t, whose parts are of a text x
+-- the text of a tree t, whose parts are of a text x, in an edition; and as 01 has it, in the crate's
+abbrev pub textIn : Edition → List ℕ → List ℕ → List ℕ
+textIn v t x = textOf (inEdition t x v)
+
 abbrev pub textFrom : List ℕ → List ℕ → List ℕ
-textFrom t x = textOf (source t x)
+textFrom = textIn Crate
 
 -- the check refuses
 unfoldable pub refuses : Answer → Bool
@@ -41,16 +46,16 @@ outputAfter (NoRoom n) text out = out
 pub record MeasuresIn (m : Mode) (t x : List ℕ) (outcome : Outcome) : Type 0 where
   pub answer : Answer
   pub checks : ChecksIn m t x answer
-  pub answers : outcome ≡ measured answer (textFrom t x)
+  pub answers : outcome ≡ measured answer (textIn (m .edition) t x)
 
 -- what render does with them and an output
 pub record RendersIn (m : Mode) (t x out : List ℕ) (outcome : Outcome) (out′ : List ℕ) : Type 0 where
   pub answer : Answer
   pub checks : ChecksIn m t x answer
-  pub answers : outcome ≡ rendered answer (length out) (textFrom t x)
-  pub writes : out′ ≡ outputAfter outcome (textFrom t x) out
+  pub answers : outcome ≡ rendered answer (length out) (textIn (m .edition) t x)
+  pub writes : out′ ≡ outputAfter outcome (textIn (m .edition) t x) out
 
--- 01 as it is: the switch is off
+-- 01 as it is: the switch is off, and the edition is the crate's
 abbrev pub Measures : List ℕ → List ℕ → Outcome → Type 0
 Measures = MeasuresIn plain
 

@@ -6,8 +6,9 @@ ghost use Prim.Native.Nat.{_≤_};
 ghost use lib.ListN.{length as length'};
 ghost use lib.Seq.{sets};
 ghost use Rattle.spelling.specs.Table.{bytes};
-ghost use Rattle.render.specs.Render.{textFrom, MeasuresIn, RendersIn, numberOf, placeOf};
+ghost use Rattle.render.specs.Render.{textIn, MeasuresIn, RendersIn, numberOf, placeOf};
 ghost use Rattle.render.specs.Steps.{Writes, Drafted, Drafts};
+use mode::Edition;
 use mode::Mode;
 use stream::Sink;
 use tree::Answer;
@@ -50,15 +51,15 @@ pub fn place(o: Outcome) -> usize
 }
 
 // The text of a tree, from the output's first byte on, as much of it as there is room for; and how long it is.
-fn write(out: &mut [u8], pool: &[u8], tree: &[u8], text: &[u8]) -> usize
+fn write(out: &mut [u8], pool: &[u8], tree: &[u8], text: &[u8], edition: Edition) -> usize
     requires { ⌜ now pool ≡ bytes ⌝ }
-    ensures { λ r. ⌜ Writes (now (tree .entry)) (now (text .entry)) (now (out .entry)) r (now (out .exit)) ⌝ }
+    ensures { λ r. ⌜ Writes edition (now (tree .entry)) (now (text .entry)) (now (out .entry)) r (now (out .exit)) ⌝ }
 {
     let s = Sink {
         spaced: true,
         at: 0,
     };
-    let end = cmd::to_tokens(s, out, pool, tree, text);
+    let end = cmd::to_tokens(s, out, pool, tree, text, edition);
     end.at
 }
 
@@ -72,7 +73,8 @@ fn check_and_measure(draft: &mut [u8], pool: &[u8], tree: &[u8], text: &[u8], mo
     if tree::number(answer) != 0 {
         return Outcome::Refused(answer);
     }
-    Outcome::Done(write(draft, pool, tree, text))
+    let edition = mode.edition;
+    Outcome::Done(write(draft, pool, tree, text, edition))
 }
 
 // The length of the text of a tree, or the check's refusal: there is no room for a draft.
@@ -85,14 +87,22 @@ pub fn measure(mode: Mode, tree: &[u8], text: &[u8]) -> Outcome
 }
 
 // The text of a tree, which has so many bytes, in the output: copied from its draft, if that has room for all of it.
-fn fair_copy(out: &mut [u8], draft: &[u8], pool: &[u8], tree: &[u8], text: &[u8], length: usize)
-    requires { ⌜ (now pool ≡ bytes) × ((length ≡ length' (textFrom (now tree) (now text))) × ((length ≤ length' (now out)) × Drafted (now tree) (now text) (now draft))) ⌝ }
-    ensures { λ _. ⌜ now (out .exit) ≡ sets (now (out .entry)) 0 (textFrom (now (tree .entry)) (now (text .entry))) ⌝ }
+fn fair_copy(
+    out: &mut [u8],
+    draft: &[u8],
+    pool: &[u8],
+    tree: &[u8],
+    text: &[u8],
+    edition: Edition,
+    length: usize,
+)
+    requires { ⌜ (now pool ≡ bytes) × ((length ≡ length' (textIn edition (now tree) (now text))) × ((length ≤ length' (now out)) × Drafted edition (now tree) (now text) (now draft))) ⌝ }
+    ensures { λ _. ⌜ now (out .exit) ≡ sets (now (out .entry)) 0 (textIn edition (now (tree .entry)) (now (text .entry))) ⌝ }
 {
     if length <= draft.len() {
         bytes::copy(&draft[..length], out);
     } else {
-        write(out, pool, tree, text);
+        write(out, pool, tree, text, edition);
     }
 }
 
@@ -110,6 +120,7 @@ pub fn render(mode: Mode, tree: &[u8], text: &[u8], out: &mut [u8]) -> Outcome
     if out.len() < length {
         return Outcome::NoRoom(length);
     }
-    fair_copy(out, &draft, &pool, tree, text, length);
+    let edition = mode.edition;
+    fair_copy(out, &draft, &pool, tree, text, edition, length);
     Outcome::Done(length)
 }

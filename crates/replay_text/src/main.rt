@@ -1,14 +1,13 @@
-// Replays trees from standard input through measure and render, and prints a line for each: `0`, the text's length and
+// Replays trees from standard input through measure and render, each with its options, and prints a line for each: `0`, the text's length and
 // the text in hex (`-` for none), or the refusal's number and its place; or `differ`, where the two do not agree.
 //
-// A case is the length of its tree and the length of its text, each of four bytes, little-endian, the tree's bytes, and
+// A case is its options, the length of its tree and the length of its text, each of four bytes, little-endian, the tree's bytes, and
 // the text's bytes.
 use libc::STDIN_FILENO;
-use mode::NO_OPTIONS;
 use render::Outcome;
 
-// The bytes before a tree: the two lengths.
-const HEAD: usize = 8;
+// The bytes before a tree: the options and the two lengths.
+const HEAD: usize = 12;
 
 // The most bytes of a tree and of a text, more than the check admits.
 const ROOM: usize = 69632;
@@ -38,11 +37,11 @@ fn print_refusal(o: Outcome) -> bool {
     lines::print_numbers(render::number(o), render::place(o) as u64, b'\n')
 }
 
-// Measures and renders a tree and its text, prints the line, and answers whether it was written.
-fn print_case(tree: &[u8], text: &[u8]) -> bool {
+// Measures and renders a tree and its text with these options, prints the line, and answers whether it was written.
+fn print_case(options: u32, tree: &[u8], text: &[u8]) -> bool {
     let mut out = [0u8; OUTPUT];
-    let measured = render::measure(mode::of(NO_OPTIONS), tree, text);
-    let rendered = render::render(mode::of(NO_OPTIONS), tree, text, &mut out);
+    let measured = render::measure(mode::of(options), tree, text);
+    let rendered = render::render(mode::of(options), tree, text, &mut out);
     if !agree(measured, rendered) {
         return lines::print(b"differ\n");
     }
@@ -54,11 +53,11 @@ fn print_case(tree: &[u8], text: &[u8]) -> bool {
 }
 
 // Reads a tree and a text into all of their parts and prints the line, and answers whether to go on.
-fn replay_parts(tree: &mut [u8], text: &mut [u8]) -> bool {
+fn replay_parts(options: u32, tree: &mut [u8], text: &mut [u8]) -> bool {
     if !lines::fill(tree) || !lines::fill(text) {
         return lines::stop(b"cut off\n");
     }
-    print_case(tree, text)
+    print_case(options, tree, text)
 }
 
 // Replays a case by way of two buffers, and answers whether to go on: not at the end of the input.
@@ -71,12 +70,13 @@ fn replay_case(trees: &mut [u8], texts: &mut [u8]) -> bool {
     if got < HEAD {
         return lines::stop(b"cut off\n");
     }
-    let tree = lines::word(head[0], head[1], head[2], head[3]);
-    let text = lines::word(head[4], head[5], head[6], head[7]);
+    let options = lines::word(head[0], head[1], head[2], head[3]);
+    let tree = lines::word(head[4], head[5], head[6], head[7]);
+    let text = lines::word(head[8], head[9], head[10], head[11]);
     if tree > trees.len() || text > texts.len() {
         return lines::stop(b"too long for this program\n");
     }
-    replay_parts(&mut trees[..tree], &mut texts[..text])
+    replay_parts(options as u32, &mut trees[..tree], &mut texts[..text])
 }
 
 // Replays case after case. The turns are counted down, from a number that no input uses up: nothing says that it ends.

@@ -4,41 +4,50 @@ use Prim.Native.Nat.{ℕ, zero, suc, _+_, _-_, _≤_}
 use native.Mathlib.Omega.{arith}
 use mathlib.Core.Path.{_≡_, refl, _∙_, ap, sym}
 use mathlib.Core.List.{List, [], _∷_, _++_, map}
-use mathlib.Core.Bool.{Bool, true, false, not, cond, _&&_, and-false}
+use mathlib.Core.Bool.{Bool, true, false, not, cond, _&&_, _||_, and-false}
 use lib.Dec.{leb, eqb, ltb}
 use lib.ListN.{length}
 use borrow.Author.Tests.{eq-eqb, ne-eqb, leb-true, not-true, not-false}
 use Rattle.laws.specs.First.{first}
 use Rattle.laws.specs.Tests.{and-left}
-use Rattle.mode.specs.Options.{plain}
+use Rattle.mode.specs.Options.{isSqlite, plain}
 use Rattle.mode.specs.declared.Mode.{Mode}
 use Rattle.source.specs.Source.{endsInside}
+use Rattle.rowid.specs.Rowid.{names}
 use Rattle.utf8.specs.declared.Encoding.{Encoding}
 use Rattle.record.specs.Record.{part, recordAt, count, markOk}
 use Rattle.record.specs.declared.Record.{Record}
-use Rattle.grammar.specs.Kind.{TEXT, Check}
-use Rattle.grammar.specs.Shape.{Class, one, list, oneOr, small, checkSource, ruled as ruledPlace}
-use Rattle.tree.specs.Check.{Place, place, holds, fits, hasPart, inside, swallows, deepest, faultsIn, scanIn, scan}
+use Rattle.grammar.specs.Kind.{TEXT, Check, ColumnsAndConstraints}
+use Rattle.grammar.specs.Shape.{Class, one, list, oneOr, small, checkSource, withoutRowid, ruled as ruledPlace}
+use Rattle.tree.specs.Check.{Place, place, holds, fits, hasPart, inside, swallows, misnames, deepest, faultsIn, scanIn, scan}
 use Rattle.tree.specs.declared.Answer.{Answer}
-use Rattle.tree.specs.declared.Answer.the-variants.{Admitted, Malformed, TooLong, Broken, Mark, Misfit, Outside, Unclosed, Deep, Ends}
+use Rattle.tree.specs.declared.Answer.the-variants.{Admitted, Malformed, TooLong, Broken, Mark, Misfit, Outside, Unclosed, NotRowid, Deep, Ends}
 use Rattle.rules.specs.declared.Found.{Found}
 
 -- ---- the rules in numbers, as the code names them
 -- the rule for a place, 0 where there is none
 unfoldable pub ruleAt : Class → ℕ
 ruleAt (ruledPlace checkSource) = 1
+ruleAt (ruledPlace withoutRowid) = 2
 ruleAt (one ks) = 0
 ruleAt (list c) = 0
 ruleAt (oneOr ks c) = 0
 ruleAt small = 0
 
--- the rules for a kind's children, a byte for each child: a CHECK's second is its source
+-- the rules for a kind's children, a byte for each child: a CHECK's second is its source, and a table's third its without-rowid text
 unfoldable pub rulesOf : ℕ → ℕ
-rulesOf k = cond (eqb k Check) 0x100 0
+rulesOf k = first ((eqb k Check, 0x100) ∷ (eqb k ColumnsAndConstraints, 0x20000) ∷ []) 0
+
+-- whether a rule is in force in a mode, and whether bytes keep it
+unfoldable pub inForce : ℕ → Mode → Bool
+inForce u m = (eqb u 1 && m .strict) || (eqb u 2 && isSqlite (m .edition))
+
+unfoldable pub keeps : ℕ → List ℕ → Bool
+keeps u s = cond (eqb u 1) (not (endsInside s)) (names s)
 
 -- 0, or the number of the refusal that a record comes to under a rule
 unfoldable pub ruleFault : Mode → List ℕ → ℕ → Record → ℕ
-ruleFault m x u r = cond (m .strict && (eqb u 1 && (eqb (r .kind) TEXT && endsInside (part x (r .start) (r .len))))) 9 0
+ruleFault m x u r = cond (inForce u m && (eqb (r .kind) TEXT && not (keeps u (part x (r .start) (r .len))))) (cond (eqb u 1) 9 10) 0
 
 -- ---- the records that a rule may be asked of
 -- how many there are, where 01's check answers this: those before its refusal, and that record too if it is only too deep
@@ -51,6 +60,7 @@ soundTo t (Mark i) = i
 soundTo t (Misfit i) = i
 soundTo t (Outside i) = i
 soundTo t (Unclosed i) = i
+soundTo t (NotRowid i) = i
 soundTo t (Deep i) = i + 1
 soundTo t (Ends i) = i
 
@@ -71,16 +81,38 @@ broken m t x (suc n) i (p ∷ ps) =
 
 -- the answer in a mode, where 01's check answers a and the walk comes to w
 unfoldable pub ruled : Answer → Found → Answer
-ruled a w = cond (eqb (w .fault) 9) (Unclosed (w .at)) a
+ruled a w = first ((eqb (w .fault) 9, Unclosed (w .at)) ∷ (eqb (w .fault) 10, NotRowid (w .at)) ∷ []) a
 
 -- ---- the rules in numbers are those of the check
-pub fault-is : (m : Mode) (x : List ℕ) (c : Class) (r : Record) → ruleFault m x (ruleAt c) r ≡ cond (m .strict && swallows x c r) 9 0
-unfolding ruleFault ruleAt swallows
-fault-is m x (ruledPlace checkSource) r = refl
-fault-is m x (one ks) r = refl
-fault-is m x (list c) r = refl
-fault-is m x (oneOr ks c) r = refl
-fault-is m x small r = refl
+none-asked : (s q : Bool) → _≡_ {A = ℕ} 0 (first ((s && false, 9) ∷ (q && false, 10) ∷ []) 0)
+none-asked true true = refl
+none-asked true false = refl
+none-asked false true = refl
+none-asked false false = refl
+
+pub fault-is : (m : Mode) (x : List ℕ) (c : Class) (r : Record)
+    → ruleFault m x (ruleAt c) r ≡ first ((m .strict && swallows x c r, 9) ∷ (isSqlite (m .edition) && misnames x c r, 10) ∷ []) 0
+unfolding ruleFault ruleAt inForce keeps swallows misnames
+fault-is m x (ruledPlace checkSource) r = by (m .strict) (isSqlite (m .edition)) (eqb (r .kind) TEXT) (endsInside (part x (r .start) (r .len)))
+  where
+    by : (s q k e : Bool) → _≡_ {A = ℕ} (cond ((s || false) && (k && not (not e))) 9 0) (first ((s && (k && e), 9) ∷ (q && false, 10) ∷ []) 0)
+    by true true true true = refl
+    by true true true false = refl
+    by true true false e = refl
+    by true false true true = refl
+    by true false true false = refl
+    by true false false e = refl
+    by false true k e = refl
+    by false false k e = refl
+fault-is m x (ruledPlace withoutRowid) r = by (m .strict) (isSqlite (m .edition)) (eqb (r .kind) TEXT) (names (part x (r .start) (r .len)))
+  where
+    by : (s q k e : Bool) → _≡_ {A = ℕ} (cond (q && (k && not e)) 10 0) (first ((s && false, 9) ∷ (q && (k && not e), 10) ∷ []) 0)
+    by true q k e = refl
+    by false q k e = refl
+fault-is m x (one ks) r = none-asked (m .strict) (isSqlite (m .edition))
+fault-is m x (list c) r = none-asked (m .strict) (isSqlite (m .edition))
+fault-is m x (oneOr ks c) r = none-asked (m .strict) (isSqlite (m .edition))
+fault-is m x small r = none-asked (m .strict) (isSqlite (m .edition))
 
 -- ---- the scan in a mode is 01's scan, but for the first that breaks a rule
 module _ (m : Mode) (t x : List ℕ) where
@@ -103,20 +135,25 @@ module _ (m : Mode) (t x : List ℕ) where
       by false false false true a h = omega arith
       by false false false false a h = omega arith
 
-  -- one record: its tests k f o s d, the answers a and b behind it without and with the rules, and what is broken behind it
-  one-record : (k f o s d : Bool) (i : ℕ) (a b : Answer) (rest : ℕ → Found) → rest 0 ≡ behind 0 → i + 1 ≤ soundTo t a
+  -- one record: its tests k f o s q d, the answers a and b behind it without and with the rules, and what is broken behind it
+  abbrev faultBy : Bool → Bool → ℕ
+  faultBy s q = first ((s, 9) ∷ (q, 10) ∷ []) 0
+
+  one-record : (k f o s q d : Bool) (i : ℕ) (a b : Answer) (rest : ℕ → Found) → rest 0 ≡ behind 0 → i + 1 ≤ soundTo t a
       → b ≡ ruled a (rest (soundTo t a - (i + 1))) → (here : ℕ → Found) → here 0 ≡ behind 0
-      → ((n : ℕ) → here (suc n) ≡ cond (eqb (cond s 9 0) 0) (rest n) (stopped (cond s 9 0) i))
-      → first ((k, Mark i) ∷ (f, Misfit i) ∷ (o, Outside i) ∷ (s, Unclosed i) ∷ (d, Deep i) ∷ []) b
+      → ((n : ℕ) → here (suc n) ≡ cond (eqb (faultBy s q) 0) (rest n) (stopped (faultBy s q) i))
+      → first ((k, Mark i) ∷ (f, Misfit i) ∷ (o, Outside i) ∷ (s, Unclosed i) ∷ (q, NotRowid i) ∷ (d, Deep i) ∷ []) b
       ≡ (let c = first ((k, Mark i) ∷ (f, Misfit i) ∷ (o, Outside i) ∷ (d, Deep i) ∷ []) a in ruled c (here (soundTo t c - i)))
   unfolding ruled
-  one-record true f o s d i a b rest z h e here y u = let q : i - i ≡ 0 = omega arith in rw (q, y)
-  one-record false true o s d i a b rest z h e here y u = let q : i - i ≡ 0 = omega arith in rw (q, y)
-  one-record false false true s d i a b rest z h e here y u = let q : i - i ≡ 0 = omega arith in rw (q, y)
-  one-record false false false true true i a b rest z h e here y u = let q : i + 1 - i ≡ 1 = omega arith in rw (q, u 0)
-  one-record false false false false true i a b rest z h e here y u = let q : i + 1 - i ≡ 1 = omega arith in rw (q, u 0, z)
-  one-record false false false true false i a b rest z h e here y u = let q : soundTo t a - i ≡ suc (soundTo t a - (i + 1)) = omega arith in rw (q, u)
-  one-record false false false false false i a b rest z h e here y u = let q : soundTo t a - i ≡ suc (soundTo t a - (i + 1)) = omega arith in rw (q, u) e
+  one-record true f o s q d i a b rest z h e here y u = let v : i - i ≡ 0 = omega arith in rw (v, y)
+  one-record false true o s q d i a b rest z h e here y u = let v : i - i ≡ 0 = omega arith in rw (v, y)
+  one-record false false true s q d i a b rest z h e here y u = let v : i - i ≡ 0 = omega arith in rw (v, y)
+  one-record false false false true q true i a b rest z h e here y u = let v : i + 1 - i ≡ 1 = omega arith in rw (v, u 0)
+  one-record false false false false true true i a b rest z h e here y u = let v : i + 1 - i ≡ 1 = omega arith in rw (v, u 0)
+  one-record false false false false false true i a b rest z h e here y u = let v : i + 1 - i ≡ 1 = omega arith in rw (v, u 0, z)
+  one-record false false false true q false i a b rest z h e here y u = let v : soundTo t a - i ≡ suc (soundTo t a - (i + 1)) = omega arith in rw (v, u)
+  one-record false false false false true false i a b rest z h e here y u = let v : soundTo t a - i ≡ suc (soundTo t a - (i + 1)) = omega arith in rw (v, u)
+  one-record false false false false false false i a b rest z h e here y u = let v : soundTo t a - i ≡ suc (soundTo t a - (i + 1)) = omega arith in rw (v, u) e
 
   pub join : (n i : ℕ) (ps : List Place) → i + n ≡ count t
       → scanIn m t x n i ps ≡ ruled (scan t x n i ps) (broken m t x (soundTo t (scan t x n i ps) - i) i ps)
@@ -127,35 +164,36 @@ module _ (m : Mode) (t x : List ℕ) where
   join (suc n) i (p ∷ ps) e =
       let r = recordAt t i in
       let qs = map (place (p .depth + 1)) (holds (p .class) r) ++ ps in
-      one-record (not (markOk r)) (not (fits (p .class) r)) (not (inside x r)) (m .strict && swallows x (p .class) r) (ltb deepest (p .depth)) i
+      one-record (not (markOk r)) (not (fits (p .class) r)) (not (inside x r)) (m .strict && swallows x (p .class) r) (isSqlite (m .edition) && misnames x (p .class) r) (ltb deepest (p .depth)) i
       (scan t x n (i + 1) qs) (scanIn m t x n (i + 1) qs) (λ k. broken m t x k (i + 1) qs) refl
       (sound-onward n (i + 1) qs (omega arith)) (join n (i + 1) qs (omega arith)) (λ k. broken m t x k i (p ∷ ps)) refl
       (λ k. rw (fault-is m x (p .class) r))
 
 -- ---- the ways through the rules, one test behind the other
 module _ (m : Mode) (x : List ℕ) (u : ℕ) (r : Record) where
-  pub other-rule : (u ≡ 1 → ⊥) → 0 ≡ ruleFault m x u r
-  unfolding ruleFault
-  other-rule h = rw (ne-eqb u 1 h, and-false (m .strict))
-
-  pub switched-off : not (m .strict) ≡ true → 0 ≡ ruleFault m x u r
-  unfolding ruleFault
-  switched-off h = rw (not-true (m .strict) h)
-
-  pub no-text : (r .kind ≡ TEXT → ⊥) → 0 ≡ ruleFault m x u r
-  unfolding ruleFault
-  no-text h = rw (ne-eqb (r .kind) TEXT h, and-false (eqb u 1), and-false (m .strict))
-
   -- a text part lies inside the text
   pub part-ends : r .kind ≡ TEXT → inside x r ≡ true → r .start + r .len ≤ length x
   unfolding inside hasPart
   part-ends k h = leb-true (r .start + r .len) (length x) (and-left (leb (r .start + r .len) (length x)) _ (rw k at h))
 
-  module _ (is : u ≡ 1) (on : not (m .strict) ≡ false) (k : r .kind ≡ TEXT) (b : Bool) (be : b ≡ endsInside (part x (r .start) (r .len))) where
-    pub unclosed : b ≡ true → 9 ≡ ruleFault m x u r
+  module _ (f : Bool) (fe : f ≡ inForce u m) where
+    pub not-in-force : not f ≡ true → 0 ≡ ruleFault m x u r
     unfolding ruleFault
-    unclosed h = rw (eq-eqb u 1 is, not-false (m .strict) on, eq-eqb (r .kind) TEXT k, ← be, h)
+    not-in-force h = rw (← fe, not-true f h)
 
-    pub closed : b ≡ false → 0 ≡ ruleFault m x u r
+    pub no-text : (r .kind ≡ TEXT → ⊥) → 0 ≡ ruleFault m x u r
     unfolding ruleFault
-    closed h = rw (eq-eqb u 1 is, not-false (m .strict) on, eq-eqb (r .kind) TEXT k, ← be, h)
+    no-text h = rw (ne-eqb (r .kind) TEXT h, and-false (inForce u m))
+
+    module _ (on : not f ≡ false) (k : r .kind ≡ TEXT) (b : Bool) (be : b ≡ keeps u (part x (r .start) (r .len))) where
+      pub kept : b ≡ true → 0 ≡ ruleFault m x u r
+      unfolding ruleFault
+      kept h = rw (← fe, not-false f on, eq-eqb (r .kind) TEXT k, ← be, h)
+
+      pub unclosed : b ≡ false → u ≡ 1 → 9 ≡ ruleFault m x u r
+      unfolding ruleFault
+      unclosed h e = rw (← fe, not-false f on, eq-eqb (r .kind) TEXT k, ← be, h, eq-eqb u 1 e)
+
+      pub not-rowid : b ≡ false → (u ≡ 1 → ⊥) → 10 ≡ ruleFault m x u r
+      unfolding ruleFault
+      not-rowid h e = rw (← fe, not-false f on, eq-eqb (r .kind) TEXT k, ← be, h, ne-eqb u 1 e)

@@ -1,23 +1,25 @@
--- From 01's check and the walk to the answer in a mode; and what a mode admits, 01's check admits.
-use Prim.Native.Nat.{ℕ, zero, suc, _-_, _<_}
+-- From 01's check and the walk to the answer in a mode; and what a mode admits, one that asks for less admits.
+use Prim.Native.Nat.{ℕ, zero, suc, _+_, _-_, _<_}
 use native.Mathlib.Omega.{arith}
 use mathlib.Core.Path.{_≡_, refl, _∙_, ap, sym}
-use mathlib.Core.List.{List, [], _∷_}
-use mathlib.Core.Bool.{Bool, true, false, not, cond}
+use mathlib.Core.List.{List, [], _∷_, _++_, map}
+use mathlib.Core.Bool.{Bool, true, false, not, cond, _&&_, _||_, false≢true}
 use lib.Dec.{eqb, ltb}
 use lib.ListN.{length}
 use borrow.Author.Tests.{eqb-true, eqb-false}
 use Rattle.laws.specs.First.{first}
-use Rattle.mode.specs.Options.{plain}
+use Rattle.mode.specs.Options.{isSqlite, plain}
+use Rattle.mode.specs.declared.Edition.{Edition}
+use Rattle.mode.specs.declared.Edition.the-variants.{Crate, Sqlite}
 use Rattle.mode.specs.declared.Mode.{Mode}
 use Rattle.utf8.specs.Rfc3629 as utf8
 use Rattle.utf8.specs.declared.Encoding.{Encoding}
-use Rattle.record.specs.Record.{count}
+use Rattle.record.specs.Record.{recordAt, count, markOk}
 use Rattle.grammar.specs.Grammar.{root}
 use Rattle.grammar.specs.Classes.{classes, classAt, rootAt, root-is}
-use Rattle.tree.specs.Check.{Place, place, scanIn, scan, malformed, longest, answerIn, ChecksIn, Checks, numberOf}
+use Rattle.tree.specs.Check.{Place, place, holds, fits, inside, swallows, misnames, deepest, faultsIn, scanIn, scan, malformed, longest, answerIn, ChecksIn, Checks, numberOf}
 use Rattle.tree.specs.declared.Answer.{Answer}
-use Rattle.tree.specs.declared.Answer.the-variants.{Malformed, TooLong, Broken, Unclosed}
+use Rattle.tree.specs.declared.Answer.the-variants.{Malformed, TooLong, Broken, Mark, Misfit, Outside, Unclosed, NotRowid, Deep}
 use Rattle.rules.specs.Rules.{ruleAt, soundTo, behind, broken, ruled, join}
 use Rattle.rules.specs.Walk.{Reached, resumed, Rules, Led, Finds}
 use Rattle.rules.specs.declared.Found.{Found}
@@ -90,33 +92,79 @@ module _ (m : Mode) (t x : List ℕ) (a : Answer) (c : Checks t x a) where
             rw q (sym (rw z at (join m t x (count t) 0 at-root (omega arith))))
 
 -- ---- with no rule in force the mode is 01's
-pub plain-is : (m : Mode) → m .strict ≡ false → plain ≡ m
-plain-is m e = sym (ap (λ (b : Bool). record { strict = b }) e)
+crate-is : (v : Edition) → isSqlite v ≡ false → Crate ≡ v
+crate-is Crate h = refl
+crate-is Sqlite h = absurd (false≢true (sym h))
 
-pub as-plain : (m : Mode) (t x : List ℕ) (a : Answer) → m .strict ≡ false → Checks t x a → ChecksIn m t x a
-as-plain m t x a e c = rw (← plain-is m e) c
+plain-is : (m : Mode) → m .strict ≡ false → isSqlite (m .edition) ≡ false → plain ≡ m
+plain-is m e f =
+    let v = crate-is (m .edition) f in
+    rw (v, ← e)
 
--- ---- what a mode admits, 01's check admits
-unruled : (a s : Answer) (w : Found) → numberOf a ≡ 0 → a ≡ ruled s w → a ≡ s
-unfolding ruled
-unruled a s w z = by (eqb (w .fault) 9)
+pub as-plain : (m : Mode) (t x : List ℕ) (a : Answer) → (m .strict || isSqlite (m .edition)) ≡ false → Checks t x a → ChecksIn m t x a
+as-plain m t x a h c = by (m .strict) (isSqlite (m .edition)) refl refl h
   where
-    by : (b : Bool) → a ≡ cond b (Unclosed (w .at)) s → a ≡ s
-    by true e = absurd (omega (arith, ap numberOf e))
-    by false e = e
+    by : (b d : Bool) → m .strict ≡ b → isSqlite (m .edition) ≡ d → (b || d) ≡ false → ChecksIn m t x a
+    by true d e f z = absurd (false≢true (sym z))
+    by false true e f z = absurd (false≢true (sym z))
+    by false false e f z = rw (← plain-is m e f) c
 
-pub stricter : (m : Mode) (t x : List ℕ) (a : Answer) → numberOf a ≡ 0 → ChecksIn m t x a → Checks t x a
-unfolding answerIn
-stricter m t x a z c =
-    record {
-      encoding = c .encoding;
-      encoded = c .encoded;
-      answers = by (malformed t) (ltb longest (length x)) (not (eqb (utf8.number (c .encoding)) 0)) (c .answers);
-    }
-  where
-    by : (f l b : Bool) → a ≡ first ((f, Malformed) ∷ (l, TooLong) ∷ (b, Broken (c .encoding)) ∷ []) (scanIn m t x (count t) 0 at-root)
-        → a ≡ first ((f, Malformed) ∷ (l, TooLong) ∷ (b, Broken (c .encoding)) ∷ []) (scan t x (count t) 0 at-root)
-    by true l b e = e
-    by false true b e = e
-    by false false true e = e
-    by false false false e = unruled a _ _ z (e ∙ join m t x (count t) 0 at-root (omega arith))
+-- ---- what a mode admits, a mode that asks for less admits
+pub record Looser (k m : Mode) : Type 0 where
+  pub switch : k .strict ≡ true → m .strict ≡ true
+  pub sqlite : isSqlite (k .edition) ≡ true → isSqlite (m .edition) ≡ true
+
+-- 01 as it is asks for the least, and the same edition with the switch off for less
+pub plain-looser : (m : Mode) → Looser plain m
+plain-looser m = record { switch = λ h. absurd (false≢true h); sqlite = λ h. absurd (false≢true h) }
+
+abbrev pub switchedOff : Mode → Mode
+switchedOff m = record { strict = false; edition = m .edition }
+
+pub off-looser : (m : Mode) → Looser (switchedOff m) m
+off-looser m = record { switch = λ h. absurd (false≢true h); sqlite = λ h. h }
+
+less-asked : (b c w : Bool) → (b ≡ true → c ≡ true) → (c && w) ≡ false → (b && w) ≡ false
+less-asked true c w h e = rw (h refl) at e
+less-asked false c w h e = refl
+
+module _ (k m : Mode) (less : Looser k m) (t x : List ℕ) where
+  same-scan : (n i : ℕ) (ps : List Place) → numberOf (scanIn m t x n i ps) ≡ 0 → scanIn k t x n i ps ≡ scanIn m t x n i ps
+  unfolding scanIn faultsIn
+  same-scan zero i [] z = refl
+  same-scan zero i (p ∷ ps) z = refl
+  same-scan (suc n) i [] z = refl
+  same-scan (suc n) i (p ∷ ps) z =
+      let r = recordAt t i in
+      by (not (markOk r)) (not (fits (p .class) r)) (not (inside x r)) _ _ _ _ (ltb deepest (p .depth)) _ _
+      (less-asked (k .strict) (m .strict) (swallows x (p .class) r) (less .switch))
+      (less-asked (isSqlite (k .edition)) (isSqlite (m .edition)) (misnames x (p .class) r) (less .sqlite))
+      (same-scan n (i + 1) (map (place (p .depth + 1)) (holds (p .class) r) ++ ps)) z
+    where
+      by : (g f o s q u v d : Bool) (a b : Answer) → (s ≡ false → u ≡ false) → (q ≡ false → v ≡ false) → (numberOf b ≡ 0 → a ≡ b)
+          → numberOf (first ((g, Mark i) ∷ (f, Misfit i) ∷ (o, Outside i) ∷ (s, Unclosed i) ∷ (q, NotRowid i) ∷ (d, Deep i) ∷ []) b) ≡ 0
+          → first ((g, Mark i) ∷ (f, Misfit i) ∷ (o, Outside i) ∷ (u, Unclosed i) ∷ (v, NotRowid i) ∷ (d, Deep i) ∷ []) a
+          ≡ first ((g, Mark i) ∷ (f, Misfit i) ∷ (o, Outside i) ∷ (s, Unclosed i) ∷ (q, NotRowid i) ∷ (d, Deep i) ∷ []) b
+      by true f o s q u v d a b hs hq rest e = refl
+      by false true o s q u v d a b hs hq rest e = refl
+      by false false true s q u v d a b hs hq rest e = refl
+      by false false false true q u v d a b hs hq rest e = absurd (omega arith)
+      by false false false false true u v d a b hs hq rest e = absurd (omega arith)
+      by false false false false false u v true a b hs hq rest e = absurd (omega arith)
+      by false false false false false u v false a b hs hq rest e = rw (hs refl, hq refl) (rest e)
+
+  pub looser : (a : Answer) → numberOf a ≡ 0 → ChecksIn m t x a → ChecksIn k t x a
+  unfolding answerIn
+  looser a z c =
+      record {
+        encoding = c .encoding;
+        encoded = c .encoded;
+        answers = by (malformed t) (ltb longest (length x)) (not (eqb (utf8.number (c .encoding)) 0)) (c .answers);
+      }
+    where
+      by : (f l b : Bool) → a ≡ first ((f, Malformed) ∷ (l, TooLong) ∷ (b, Broken (c .encoding)) ∷ []) (scanIn m t x (count t) 0 at-root)
+          → a ≡ first ((f, Malformed) ∷ (l, TooLong) ∷ (b, Broken (c .encoding)) ∷ []) (scanIn k t x (count t) 0 at-root)
+      by true l b e = e
+      by false true b e = e
+      by false false true e = e
+      by false false false e = e ∙ sym (same-scan (count t) 0 at-root (sym (ap numberOf e) ∙ z))

@@ -6,9 +6,10 @@ ghost use mathlib.Core.Path.{_≡_};
 ghost use mathlib.Core.Bool.{true};
 ghost use Prim.Native.Nat.{_≤_};
 ghost use Rattle.tree.specs.Check.{inside as inside', longest, ChecksIn, placeOf};
-ghost use Rattle.rules.specs.Rules.{ruleFault, rulesOf, soundTo, ruled as ruled'};
+ghost use Rattle.rules.specs.Rules.{inForce, keeps as keeps', ruleFault, rulesOf, soundTo, ruled as ruled'};
 ghost use Rattle.rules.specs.Walk.{Led, Finds};
 use grammar::kind::CHECK;
+use grammar::kind::COLUMNS_AND_CONSTRAINTS;
 use grammar::kind::TEXT;
 use mode::Mode;
 use record::Record;
@@ -19,6 +20,11 @@ const SOURCE: u64 = 1;
 
 const UNCLOSED: u64 = 9;
 
+// The rule for a without-rowid text, and its number.
+const ROWID: u64 = 2;
+
+const NOT_ROWID: u64 = 10;
+
 // The rules for a record's children are a number, a byte for each child, the first child's the lowest; 0 is no rule.
 const BYTE: u64 = 0x100;
 
@@ -26,6 +32,9 @@ const NO_RULES: u64 = 0;
 
 // A CHECK's second child is its source.
 const CHECK_RULES: u64 = SOURCE * BYTE;
+
+// A table's third child is its without-rowid text.
+const TABLE_RULES: u64 = ROWID * BYTE * BYTE;
 
 // The root is 1 deep, and a record may be this deep.
 const DEEPEST: usize = 64;
@@ -36,15 +45,31 @@ struct Found {
     at: usize,
 }
 
+// Whether a rule is in force in a mode.
+fn in_force(rule: u64, mode: Mode) -> bool
+    ensures { λ b. ⌜ b ≡ inForce rule mode ⌝ }
+{
+    let strict = mode.strict;
+    let edition = mode.edition;
+    ((rule == SOURCE) & strict) | ((rule == ROWID) & mode::sqlite(edition))
+}
+
+// Whether the part of a text that a record names keeps a rule.
+fn keeps(rule: u64, part: &[u8]) -> bool
+    ensures { λ b. ⌜ b ≡ keeps' rule (now (part .entry)) ⌝ }
+{
+    if rule == SOURCE {
+        return !source::ends_inside(part);
+    }
+    rowid::names(part)
+}
+
 // The number that a record comes to in a place with a rule, or with none: 0, or that of the refusal.
 fn rule_fault(text: &[u8], rule: u64, r: Record, mode: Mode) -> u64
     requires { ⌜ inside' (now text) r ≡ true ⌝ }
     ensures { λ f. ⌜ f ≡ ruleFault mode (now (text .entry)) rule r ⌝ }
 {
-    if rule != SOURCE {
-        return 0;
-    }
-    if !mode.strict {
+    if !in_force(rule, mode) {
         return 0;
     }
     if r.kind != TEXT {
@@ -52,10 +77,10 @@ fn rule_fault(text: &[u8], rule: u64, r: Record, mode: Mode) -> u64
     }
     let start = r.start as usize;
     let end = start + r.len as usize;
-    if source::ends_inside(&text[start..end]) {
-        return UNCLOSED;
+    if keeps(rule, &text[start..end]) {
+        return 0;
     }
-    0
+    if rule == SOURCE { UNCLOSED } else { NOT_ROWID }
 }
 
 // The rules for the children of a kind.
@@ -64,6 +89,9 @@ fn rules_of(kind: u16) -> u64
 {
     if kind == CHECK {
         return CHECK_RULES;
+    }
+    if kind == COLUMNS_AND_CONSTRAINTS {
+        return TABLE_RULES;
     }
     NO_RULES
 }
@@ -123,6 +151,7 @@ fn sound_to(tree: &[u8], a: Answer) -> usize
         Answer::Misfit(i) => i,
         Answer::Outside(i) => i,
         Answer::Unclosed(i) => i,
+        Answer::NotRowid(i) => i,
         Answer::Deep(i) => i + 1,
         Answer::Ends(i) => i,
     }
@@ -135,6 +164,9 @@ fn ruled(a: Answer, w: Found) -> Answer
     if w.fault == UNCLOSED {
         return Answer::Unclosed(w.at);
     }
+    if w.fault == NOT_ROWID {
+        return Answer::NotRowid(w.at);
+    }
     a
 }
 
@@ -144,7 +176,8 @@ pub fn check(tree: &[u8], text: &[u8], mode: Mode) -> Answer
 {
     let answer = tree::check(tree, text);
     let strict = mode.strict;
-    if !strict {
+    let edition = mode.edition;
+    if !(strict | mode::sqlite(edition)) {
         return answer;
     }
     let end = sound_to(tree, answer);

@@ -17,8 +17,11 @@ use Rattle.grammar.specs.Grammar.{from, run, maybe, clause, conflict, shape}
 use Rattle.grammar.specs.Groups.{before-all, behind-all, among-both, or-none}
 use Rattle.grammar.specs.Slots.{allowed}
 use Rattle.tokens.specs.Tokens.{Source, of, flagged, placed, means, node}
+use Rattle.mode.specs.declared.Edition.{Edition}
+use Rattle.mode.specs.declared.Edition.the-variants.{Crate}
 use Rattle.pen.specs.declared.Pen.{Pen}
-use Rattle.pen.specs.Pen.{source, Spot, Past, Writes}
+use Rattle.tokens.specs.Tokens.{inEdition}
+use Rattle.pen.specs.Pen.{Lent, source, Spot, Past, Writes}
 use Rattle.pen.specs.Laws.{_▹_, same, puts-next}
 use Rattle.pen.specs.Flags.{bits, first-bit, second-bit, third-bit}
 use Rattle.pen.specs.Places.{skipped}
@@ -55,42 +58,42 @@ node-replace e zero j = refl
 node-replace e (suc d) j = refl
 
 -- a word leaves the pen where it is
-stays : {e : Source} {w : List ℕ} {d k : ℕ} {r : Record} {a b : Spot} → Writes e w d r (word k) a b → b .0 .next ≡ a .0 .next
+stays : {e : Lent} {w : List ℕ} {d k : ℕ} {r : Record} {a b : Spot} → Writes e w d r (word k) a b → b .0 .next ≡ a .0 .next
 unfolding means
-stays h = puts-next (h .puts)
+stays h = puts-next (h .puts Crate)
 
 module _ {t x w : List ℕ} {d : ℕ} {r : Record} where
-  passed-over : {o : List ℕ} {q s : Pen} → placed (source t x) (node (source t x) d) conflict (q .next) ≡ of (source t x) (q .next) [] → Past t q s
+  passed-over : {o : List ℕ} {q s : Pen} → ((u : Edition) → placed (inEdition t x u) (node (inEdition t x u) d) conflict (q .next) ≡ of (inEdition t x u) (q .next) []) → Past t q s
       → Writes (source t x) w d r (slot conflict) (q, o) (s, o)
   unfolding means
-  passed-over e past = record { puts = rw e (skipped past x) }
+  passed-over e past = record { puts = λ u. rw (e u) (skipped past x u) }
 
-  or-is : {b c : Spot} → placed (source t x) (node (source t x) d) conflict (b .0 .next) ≡ placed (source t x) (node (source t x) d) (maybe run) (b .0 .next)
+  or-is : {b c : Spot} → ((u : Edition) → placed (inEdition t x u) (node (inEdition t x u) d) conflict (b .0 .next) ≡ placed (inEdition t x u) (node (inEdition t x u) d) (maybe run) (b .0 .next))
       → Writes (source t x) w d r (clause TK-OR run) b c → Writes (source t x) w d r (given (word TK-OR · slot conflict)) b c
   unfolding means
-  or-is e g = record { puts = rw e (g .puts) }
+  or-is e g = record { puts = λ u. rw (e u) (g .puts u) }
 
   replaced : {p : Pen} {o : List ℕ} {c : Spot} → eqb (recordAt t (p .next) .kind) REPLACE ≡ true → Writes (source t x) w d r (word TK-REPLACE · slot conflict) (p, o) c
       → Writes (source t x) w d r insertOr (p, o) c
   unfolding means
-  replaced e g = record { puts = rw e (g .puts) }
+  replaced e g = record { puts = λ u. rw e (g .puts u) }
 
   inserted : {p : Pen} {o : List ℕ} {c : Spot} → eqb (recordAt t (p .next) .kind) REPLACE ≡ false
       → Writes (source t x) w d r (word TK-INSERT · given (word TK-OR · slot conflict)) (p, o) c → Writes (source t x) w d r insertOr (p, o) c
   unfolding means
-  inserted e g = record { puts = rw e (g .puts) }
+  inserted e g = record { puts = λ u. rw e (g .puts u) }
 
 module _ (t x : List ℕ) (d j : ℕ) (k : Record) (read : k ≡ recordAt t j) where
   conflict-kind : (b : Bool) → eqb (k .kind) REPLACE ≡ b → eqb (recordAt t j .kind) REPLACE ≡ b
   conflict-kind b e = rw (← read) e
 
-  replace-placed : (i : ℕ) → i ≡ j → k .kind ≡ REPLACE → placed (source t x) (node (source t x) d) conflict i ≡ of (source t x) i []
+  replace-placed : (i : ℕ) → i ≡ j → k .kind ≡ REPLACE → (u : Edition) → placed (inEdition t x u) (node (inEdition t x u) d) conflict i ≡ of (inEdition t x u) i []
   unfolding placed allowed
-  replace-placed i e z = rw (e, ← read, z) (node-replace (source t x) d j)
+  replace-placed i e z u = rw (e, ← read, z) (node-replace (inEdition t x u) d j)
 
-  other-placed : (i : ℕ) → i ≡ j → (k .kind ≡ REPLACE → ⊥) → placed (source t x) (node (source t x) d) conflict i ≡ placed (source t x) (node (source t x) d) (maybe run) i
+  other-placed : (i : ℕ) → i ≡ j → (k .kind ≡ REPLACE → ⊥) → (u : Edition) → placed (inEdition t x u) (node (inEdition t x u) d) conflict i ≡ placed (inEdition t x u) (node (inEdition t x u) d) (maybe run) i
   unfolding placed allowed
-  other-placed i e z = rw (e, ← read, ne-eqb (k .kind) REPLACE z)
+  other-placed i e z u = rw (e, ← read, ne-eqb (k .kind) REPLACE z)
 
 module _ {t x w o : List ℕ} {d : ℕ} {r k : Record} {p : Pen} (read : k ≡ recordAt t (p .next)) where
   pub replacing-is : {o′ : List ℕ} {q s : Pen} → k .kind ≡ REPLACE → Writes (source t x) w d r (word TK-REPLACE) (p, o) (q, o′) → Past t q s → Writes (source t x) w d r insertOr (p, o) (s, o′)
@@ -105,7 +108,7 @@ module _ {t x w o : List ℕ} {d : ℕ} {r k : Record} {p : Pen} (read : k ≡ r
       (h ▹ or-is (other-placed t x d (p .next) k read (b .0 .next) (stays h) z) g)
 
 -- ---- whatever a record's first flags are, there is one that has them: so an output keeps its length
-module _ {e : Source} {w : List ℕ} {d : ℕ} {s : Shape} {p q : Spot} where
+module _ {e : Lent} {w : List ℕ} {d : ℕ} {s : Shape} {p q : Spot} where
   pub same-one : {a : Bool} → ((r : Record) → a ≡ flagged 0 r → Writes e w d r s p q) → length (q .1) ≡ length (p .1)
   same-one {a} h = same (h (bits a false false) (first-bit a false false))
 

@@ -6,7 +6,7 @@ ghost use Rattle.grammar.specs.Kind.{CreateIndex, CreateTable, CreateTrigger, C
 ghost use Rattle.grammar.specs.Shape.{said as said', given, decimal, _·_};
 ghost use Rattle.grammar.specs.Grammar.{shape};
 ghost use Rattle.tokens.specs.Tokens.{flagged};
-ghost use Rattle.pen.specs.Pen.{source, Writes, Always, Below, Under, WithText};
+ghost use Rattle.pen.specs.Pen.{source, sourceIn, Writes, Always, Below, Under, WithText};
 ghost use Rattle.stmt.specs.Parts.{indexOptions, triggerBody, viewBody, forEachRow', notNull', cycle'};
 use clause::create_table::create_table_body;
 use clause::custom::create_type_body;
@@ -17,6 +17,7 @@ use corners::number;
 use grammar::kind::DOMAIN_CONSTRAINT;
 use grammar::kind::NONE;
 use grammar::kind::PAIR;
+use mode::Edition;
 use parts::clause;
 use parts::columns;
 use parts::if_not_exists;
@@ -103,15 +104,16 @@ pub fn create_table(
     left: usize,
     temporary: bool,
     not_there: bool,
+    edition: Edition,
 ) -> Pen
-    ensures { λ q. ⌜ ((r : Record') → temporary ≡ flagged 0 r → «not_there» ≡ flagged 1 r → Writes (source (now (tree .entry)) (now (text .entry))) (now (pool .entry)) left r (shape CreateTable) (p, now (out .entry)) (q, now (out .exit))) ⌝ }
+    ensures { λ q. ⌜ ((r : Record') → temporary ≡ flagged 0 r → «not_there» ≡ flagged 1 r → Writes (sourceIn (now (tree .entry)) (now (text .entry)) edition) (now (pool .entry)) left r (shape CreateTable) (p, now (out .entry)) (q, now (out .exit))) ⌝ }
 {
     let q = word(p, out, pool, TK_CREATE);
     let q = word_if(q, out, pool, temporary, TK_TEMP);
     let q = word(q, out, pool, TK_TABLE);
     let q = if_not_exists(q, out, pool, not_there);
     let q = run(q, out, pool, tree, text);
-    create_table_body(q, out, pool, tree, text, left)
+    create_table_body(q, out, pool, tree, text, left, edition)
 }
 
 // FOR EACH ROW if so.
@@ -241,14 +243,15 @@ pub fn create_type(
     text: &[u8],
     left: usize,
     not_there: bool,
+    edition: Edition,
 ) -> Pen
-    ensures { λ q. ⌜ ((r : Record') → «not_there» ≡ flagged 0 r → Writes (source (now (tree .entry)) (now (text .entry))) (now (pool .entry)) left r (shape CreateType) (p, now (out .entry)) (q, now (out .exit))) ⌝ }
+    ensures { λ q. ⌜ ((r : Record') → «not_there» ≡ flagged 0 r → Writes (sourceIn (now (tree .entry)) (now (text .entry)) edition) (now (pool .entry)) left r (shape CreateType) (p, now (out .entry)) (q, now (out .exit))) ⌝ }
 {
     let q = word(p, out, pool, TK_CREATE);
     let q = word(q, out, pool, TK_TYPE);
     let q = if_not_exists(q, out, pool, not_there);
     let q = name(q, out, pool, tree, text);
-    create_type_body(q, out, pool, tree, text, left)
+    create_type_body(q, out, pool, tree, text, left, edition)
 }
 
 // NOT NULL if so.

@@ -2,7 +2,7 @@
 ghost use Rattle.grammar.specs.Kind.{AlterTable, Delete, Savepoint};
 ghost use Rattle.grammar.specs.Shape.{slot};
 ghost use Rattle.grammar.specs.Grammar.{from, node, statement};
-ghost use Rattle.pen.specs.Pen.{source, Below};
+ghost use Rattle.pen.specs.Pen.{source, sourceIn, Below};
 use clause::select::select;
 use create::create_domain;
 use create::create_index;
@@ -50,6 +50,7 @@ use grammar::kind::SAVEPOINT;
 use grammar::kind::SELECT_STMT;
 use grammar::kind::UPDATE;
 use grammar::kind::VACUUM;
+use mode::Edition;
 use parts::first_flag;
 use parts::run;
 use parts::second_flag;
@@ -91,8 +92,9 @@ fn stmt_to_create_virtual_table(
     tree: &[u8],
     text: &[u8],
     left: usize,
+    edition: Edition,
 ) -> Pen
-    ensures { λ q. ⌜ Below (source (now (tree .entry)) (now (text .entry))) (now (pool .entry)) left (slot (node (from AlterTable 11))) (p, now (out .entry)) (q, now (out .exit)) ⌝ }
+    ensures { λ q. ⌜ Below (sourceIn (now (tree .entry)) (now (text .entry)) edition) (now (pool .entry)) left (slot (node (from AlterTable 11))) (p, now (out .entry)) (q, now (out .exit)) ⌝ }
 {
     let r = record::read(tree, p.next);
     if left == 0 {
@@ -121,7 +123,7 @@ fn stmt_to_create_virtual_table(
         return create_index(q, out, pool, tree, text, left - 1, first, second);
     }
     if r.kind == CREATE_TABLE {
-        return create_table(q, out, pool, tree, text, left - 1, first, second);
+        return create_table(q, out, pool, tree, text, left - 1, first, second, edition);
     }
     if r.kind == CREATE_TRIGGER {
         return create_trigger(q, out, pool, tree, text, first, second, third);
@@ -202,8 +204,9 @@ fn stmt_to_drop_domain(
     tree: &[u8],
     text: &[u8],
     left: usize,
+    edition: Edition,
 ) -> Pen
-    ensures { λ q. ⌜ Below (source (now (tree .entry)) (now (text .entry))) (now (pool .entry)) left (slot (node (from Savepoint 10))) (p, now (out .entry)) (q, now (out .exit)) ⌝ }
+    ensures { λ q. ⌜ Below (sourceIn (now (tree .entry)) (now (text .entry)) edition) (now (pool .entry)) left (slot (node (from Savepoint 10))) (p, now (out .entry)) (q, now (out .exit)) ⌝ }
 {
     let r = record::read(tree, p.next);
     if left == 0 {
@@ -225,7 +228,7 @@ fn stmt_to_drop_domain(
         return vacuum(q, out, pool, tree, text);
     }
     if r.kind == CREATE_TYPE {
-        return create_type(q, out, pool, tree, text, left - 1, first);
+        return create_type(q, out, pool, tree, text, left - 1, first, edition);
     }
     if r.kind == CREATE_DOMAIN {
         return create_domain(q, out, pool, tree, text, left - 1, first, second);
@@ -246,15 +249,23 @@ fn stmt_to_drop_domain(
 }
 
 // Stmt (32 to 64).
-pub fn stmt(p: Pen, out: &mut [u8], pool: &[u8], tree: &[u8], text: &[u8], left: usize) -> Pen
-    ensures { λ q. ⌜ Below (source (now (tree .entry)) (now (text .entry))) (now (pool .entry)) left (slot statement) (p, now (out .entry)) (q, now (out .exit)) ⌝ }
+pub fn stmt(
+    p: Pen,
+    out: &mut [u8],
+    pool: &[u8],
+    tree: &[u8],
+    text: &[u8],
+    left: usize,
+    edition: Edition,
+) -> Pen
+    ensures { λ q. ⌜ Below (sourceIn (now (tree .entry)) (now (text .entry)) edition) (now (pool .entry)) left (slot statement) (p, now (out .entry)) (q, now (out .exit)) ⌝ }
 {
     let r = record::read(tree, p.next);
     if r.kind < DELETE {
-        return stmt_to_create_virtual_table(p, out, pool, tree, text, left);
+        return stmt_to_create_virtual_table(p, out, pool, tree, text, left, edition);
     }
     if r.kind < SAVEPOINT {
         return stmt_to_rollback(p, out, pool, tree, text, left);
     }
-    stmt_to_drop_domain(p, out, pool, tree, text, left)
+    stmt_to_drop_domain(p, out, pool, tree, text, left, edition)
 }

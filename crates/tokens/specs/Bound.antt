@@ -6,7 +6,7 @@ use Prim.Native.Nat.{ℕ, zero, suc, _+_, _*_, _^_, _≤_, _<_, min}
 use native.Mathlib.Omega.{arith}
 use native.Mathlib.Nat.{le-refl, mul-suc}
 use mathlib.Core.Path.{_≡_, refl, _∙_, ap}
-use mathlib.Core.List.{List, [], _∷_}
+use mathlib.Core.List.{List, [], _∷_, _++_}
 use mathlib.Core.Bool.{Bool, true, false, cond, _&&_}
 use lib.Dec.{eqb, ltb, leb}
 use lib.ListN.{length, getD}
@@ -21,12 +21,12 @@ use Rattle.record.specs.Record.{count, numberOf}
 use Rattle.record.specs.Laws.{nothing as absent, past, bounded}
 use Rattle.record.specs.declared.Record.{Record}
 use Rattle.grammar.specs.Kind.{NONE, LIST, TOKEN, TEXT, NUMBER, REPLACE}
-use Rattle.grammar.specs.Shape.{Class, one, Shape, nothing, token, ident, word, said, line, when, is, slot, each, commas, row, lines, tuples, given, filled, replacing, decimal, brackets, quoted, rowid, source, later, _·_}
+use Rattle.grammar.specs.Shape.{Class, one, Shape, nothing, token, ident, word, said, line, when, is, slot, each, commas, row, lines, tuples, given, filled, replacing, decimal, brackets, quoted, rowid, source, both, later, _·_}
 use Rattle.grammar.specs.Grammar.{run, root, rootKinds, shape}
 use Rattle.grammar.specs.Slots.{allowed}
 use Rattle.tokens.specs.Corners.{bare, valued, id, newline, without, sourced, quote, pairs}
-use Rattle.tokens.specs.Tokens.{Source, Out, at, behind, part, tokenOf, flagged, say, of, then, rows, listed, placed, ofKind, comma, bracketed, checked, means, leaf, node, deepest, whole, tokensOf, textOf}
-use Rattle.tokens.specs.Weights.{longest, around, each-pays, base, shape-affordable, comma-weight, left-weight, right-weight, pairs-weight, cut-short, sourced-weight, without-weight, quote-weight, number-fits}
+use Rattle.tokens.specs.Tokens.{Source, Out, at, behind, part, tokenOf, flagged, say, of, then, rows, listed, placed, ofKind, comma, bracketed, checked, between, means, leaf, node, deepest, whole, tokensOf, textOf}
+use Rattle.tokens.specs.Weights.{longest, around, each-pays, base, shape-affordable, comma-weight, left-weight, right-weight, pairs-weight, cut-short, sourced-weight, without-weight, between-weight, quote-weight, number-fits}
 
 -- a tree and a text of bytes that are not over-long
 pub record Bounded (e : Source) : Type 0 where
@@ -215,10 +215,16 @@ module _ (e : Source) (b : Bounded e) where
     means-within r decimal j h = kinds e j NUMBER (id (decimal.decimal (numberOf (at e j))) ∷ []) (omega arith) h (decimal-weight j)
     means-within r brackets j h = kinds e j NUMBER (pairs (min (at e j .start) 255)) (omega arith) h (omega (arith, pairs-weight (min (at e j .start) 255)))
     means-within r quoted j h =
-        kinds e j TEXT (quote (part e (at e j)) ∷ []) (omega arith) h (omega (arith, quote-weight (part e (at e j)), part-short (at e j)))
+        kinds e j TEXT (quote (e .edition) (part e (at e j)) ∷ []) (omega arith) h (omega (arith, quote-weight (e .edition) (part e (at e j)), part-short (at e j)))
     means-within r rowid j h =
         kinds e j TEXT (without (part e (at e j))) (omega arith) h (omega (arith, without-weight (part e (at e j)), part-short (at e j)))
     means-within r source j h = source-within j h
+    means-within r (both x y) j h =
+        let p = means-within r x j h in
+        let o = means e f r x j in
+        let q = means-within r y (o .next) (p .high) in
+        let m = between (e .edition) (o .tokens) (means e f r y (o .next) .tokens) in
+        record { low = omega arith; high = q .high; weight = omega (arith, weigh-append (o .tokens) (m ++ means e f r y (o .next) .tokens), weigh-append m (means e f r y (o .next) .tokens), between-weight (e .edition) (o .tokens) (means e f r y (o .next) .tokens)) }
     means-within r (later x y) j h =
         let p = means-within r x j h in
         let o = means e f r x j in

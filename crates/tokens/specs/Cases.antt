@@ -6,19 +6,21 @@ use mathlib.Core.List.{List, [], _∷_, _++_, map}
 use Rattle.laws.specs.Little.{little}
 use Rattle.laws.specs.Text.{ascii}
 use Rattle.blank.specs.Blank.{blank, allBlank}
+use Rattle.mode.specs.declared.Edition.the-variants.{Crate, Sqlite}
 use Rattle.white.specs.White.{lengthAmong, whiteLength}
 use Rattle.white.specs.Parts.{marks, runs, parts}
 use Rattle.decimal.specs.Decimal as dec
 use Rattle.spelling.specs.Rows as spellings
 use Rattle.spelling.specs.Spelling.{row, spelling}
 use Rattle.spelling.specs.Token.{TK-ID}
+use Rattle.stream.specs.Sink.{doubled}
 use Rattle.stream.specs.Stream.{tight, opens, gap, gapped, blob, spelledBit, written, valuedBit, added, left, adds, leaves, text}
 use Rattle.record.specs.Record.{bytesAt, recordAt, signed, numberOf}
 use Rattle.grammar.specs.Kind.{NONE, LIST, TOKEN, RUN, TEXT, NUMBER, Cmd, Insert, DropType, CreateSequence, Values, ColumnsAndConstraints, Check, TypeName, OperatorClause, REPLACE}
 use Rattle.grammar.specs.Grammar.{shape}
 use Rattle.grammar.specs.Slots.{allowed}
-use Rattle.tokens.specs.Corners.{without, dashes, sourced, quote, pairs}
-use Rattle.tokens.specs.Tokens.{Source, behind, tokenOf, flagged, rows, listed, placed, checked, means, node, whole, tokensOf, textOf}
+use Rattle.tokens.specs.Corners.{without, dashes, sourced, inner, quote, pairs}
+use Rattle.tokens.specs.Tokens.{anything, between, Source, behind, tokenOf, flagged, rows, listed, placed, checked, means, node, whole, tokensOf, textOf}
 
 -- the sixteen bytes of a record: kind, flags, number of children, text start, text length
 abbrev rec : ℕ → ℕ → ℕ → ℕ → ℕ → List ℕ
@@ -48,7 +50,7 @@ abbrev pub Case : Type 0
 Case = Source × List ℕ
 
 abbrev case : List ℕ → String → String → Case
-case tree text bytes = (record { tree = tree; text = ascii text }, ascii bytes)
+case tree text bytes = (record { tree = tree; text = ascii text; edition = Crate }, ascii bytes)
 
 unfoldable pub cases : List Case
 cases =
@@ -66,5 +68,21 @@ cases =
 
 -- the text of each tree is its bytes
 pub cases-hold : map (λ c. textOf (c .0)) cases ≡ map (λ c. c .1) cases
-unfolding cases textOf tokensOf whole node means checked placed listed rows behind tokenOf flagged without dashes sourced quote pairs allowed shape recordAt bytesAt signed numberOf text adds leaves added left gap gapped tight opens blob spelledBit written valuedBit allBlank blank spelling row spellings.rows marks runs parts lengthAmong whiteLength dec.decimal dec.natural dec.digits
+unfolding cases anything between inner doubled textOf tokensOf whole node means checked placed listed rows behind tokenOf flagged without dashes sourced quote pairs allowed shape recordAt bytesAt signed numberOf text adds leaves added left gap gapped tight opens blob spelledBit written valuedBit allBlank blank spelling row spellings.rows marks runs parts lengthAmong whiteLength dec.decimal dec.natural dec.digits
 cases-hold = refl
+
+-- ---- in SQLite's edition (02, viii): a quote inside an operator's text is doubled, and a comma stands between two options, and only there
+abbrev sqlite : List ℕ → String → Source
+sqlite tree text = record { tree = tree; text = ascii text; edition = Sqlite }
+
+sqlite-operator : textOf (sqlite (of OperatorClause 2 ++ words 0 4 ++ of NONE 0) "it's") ≡ ascii "OPERATOR 'it''s'"
+unfolding anything between inner doubled textOf tokensOf whole node means checked placed listed rows behind tokenOf flagged without dashes sourced quote pairs allowed shape recordAt bytesAt signed numberOf text adds leaves added left gap gapped tight opens blob spelledBit written valuedBit allBlank blank spelling row spellings.rows marks runs parts lengthAmong whiteLength dec.decimal dec.natural dec.digits
+sqlite-operator = refl
+
+sqlite-options : textOf (sqlite (of ColumnsAndConstraints 4 ++ of LIST 1 ++ ident 0 1 ++ of LIST 0 ++ words 1 13 ++ words 14 6) "aWithout rowidSTRICT") ≡ ascii "(a) WITHOUT rowid, STRICT"
+unfolding anything between inner doubled textOf tokensOf whole node means checked placed listed rows behind tokenOf flagged without dashes sourced quote pairs allowed shape recordAt bytesAt signed numberOf text adds leaves added left gap gapped tight opens blob spelledBit written valuedBit allBlank blank spelling row spellings.rows marks runs parts lengthAmong whiteLength dec.decimal dec.natural dec.digits
+sqlite-options = refl
+
+sqlite-one-option : textOf (sqlite (of ColumnsAndConstraints 4 ++ of LIST 1 ++ ident 0 1 ++ of LIST 0 ++ words 1 13 ++ of NONE 0) "aWithout rowid") ≡ ascii "(a) WITHOUT rowid"
+unfolding anything between inner doubled textOf tokensOf whole node means checked placed listed rows behind tokenOf flagged without dashes sourced quote pairs allowed shape recordAt bytesAt signed numberOf text adds leaves added left gap gapped tight opens blob spelledBit written valuedBit allBlank blank spelling row spellings.rows marks runs parts lengthAmong whiteLength dec.decimal dec.natural dec.digits
+sqlite-one-option = refl

@@ -7,6 +7,9 @@ use lib.ListN.{length, take, drop}
 use Rattle.laws.specs.Text.{ascii}
 use Rattle.spelling.specs.Token.{TK-ID, TK-STRING, TK-WITHOUT, TK-LBRACKET, TK-RBRACKET}
 use Rattle.stream.specs.Stream.{Token, none, some}
+use Rattle.stream.specs.Sink.{doubled}
+use Rattle.mode.specs.declared.Edition.{Edition}
+use Rattle.mode.specs.declared.Edition.the-variants.{Crate, Sqlite}
 use Rattle.white.specs.Parts.{parts, second}
 
 -- a token with no value, with a value, and TK_ID with one
@@ -39,9 +42,14 @@ dashes (a ∷ b ∷ x) = (eqb a 0x2D && eqb b 0x2D) || dashes (b ∷ x)
 unfoldable pub sourced : List ℕ → List Token
 sourced x = id x ∷ cond (dashes x) (id newline ∷ []) []
 
--- "a quote, the text, a quote, inner quotes not doubled"
-unfoldable pub quote : List ℕ → Token
-quote x = valued TK-STRING (ascii "'" ++ x ++ ascii "'")
+-- the text between the quotes: "inner quotes not doubled" (01), and "doubled" in SQLite's edition (02, viii)
+unfoldable pub inner : Edition → List ℕ → List ℕ
+inner Crate x = x
+inner Sqlite x = doubled x
+
+-- "a quote, the text, a quote"
+unfoldable pub quote : Edition → List ℕ → Token
+quote v x = valued TK-STRING (ascii "'" ++ inner v x ++ ascii "'")
 
 -- n pairs of brackets
 unfoldable pub pairs : ℕ → List Token

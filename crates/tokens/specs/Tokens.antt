@@ -1,11 +1,13 @@
 -- What a tree writes: the tokens of a record, by its entry in the grammar (01, sections 2 and 4, and fmt.rs).
 use Prim.Native.Nat.{ℕ, zero, suc, _+_, _/_, _%_, _^_, min}
 use mathlib.Core.List.{List, [], _∷_, _++_}
-use mathlib.Core.Bool.{Bool, true, cond, _&&_}
+use mathlib.Core.Bool.{Bool, true, false, cond, _&&_}
 use lib.Dec.{eqb, ltb, leb}
 use lib.ListN.{take, drop}
 use Rattle.laws.specs.Text.{ascii}
 use Rattle.spelling.specs.Token.{TK-COMMA, TK-LP, TK-RP}
+use Rattle.mode.specs.declared.Edition.{Edition}
+use Rattle.mode.specs.Options.{isSqlite}
 use Rattle.stream.specs.Stream as stream
 use Rattle.stream.specs.Stream.{Token}
 use Rattle.stream.specs.Sink as sink
@@ -13,15 +15,19 @@ use Rattle.decimal.specs.Decimal as decimal
 use Rattle.record.specs.Record.{recordAt, count, numberOf}
 use Rattle.record.specs.declared.Record.{Record}
 use Rattle.grammar.specs.Kind.{NONE, LIST, TOKEN, TEXT, NUMBER, Cmd, REPLACE}
-use Rattle.grammar.specs.Shape.{Class, one, Shape, nothing, token, ident, word, said, line, when, is, slot, each, commas, row, lines, tuples, given, filled, replacing, decimal, brackets, quoted, rowid, source, later, _·_}
+use Rattle.grammar.specs.Shape.{Class, one, Shape, nothing, token, ident, word, said, line, when, is, slot, each, commas, row, lines, tuples, given, filled, replacing, decimal, brackets, quoted, rowid, source, both, later, _·_}
 use Rattle.grammar.specs.Grammar.{run, root, rootKinds, shape}
 use Rattle.grammar.specs.Slots.{allowed}
 use Rattle.tokens.specs.Corners.{bare, valued, id, newline, without, sourced, quote, pairs}
 
--- a tree and its text
+-- a tree and its text, and the edition that is written
 pub record Source : Type 0 where
   pub tree : List ℕ
   pub text : List ℕ
+  pub edition : Edition
+
+abbrev pub inEdition : List ℕ → List ℕ → Edition → Source
+inEdition t x v = record { tree = t; text = x; edition = v }
 
 -- tokens, and the index behind the records that they are of
 pub record Out : Type 0 where
@@ -84,6 +90,15 @@ bracketed f j = then (then (say (bare TK-LP ∷ []) j) f) (say (bare TK-RP ∷ [
 unfoldable pub checked : Source → List Token → ℕ → Out
 checked e ts j = of e j (cond (eqb (at e j .kind) TEXT && ltb 0 (at e j .len)) (sourced (part e (at e j))) ts)
 
+-- whether anything is written
+unfoldable pub anything : List Token → Bool
+anything [] = false
+anything (t ∷ ts) = true
+
+-- "a comma between the two .. when both are written" (02, viii)
+unfoldable pub between : Edition → List Token → List Token → List Token
+between v ts us = cond (isSqlite v && (anything ts && anything us)) comma []
+
 -- what a shape of record r writes, the next child being at j
 unfoldable pub means : Source → (ℕ → ℕ → Out) → Record → Shape → ℕ → Out
 means e f r nothing j = say [] j
@@ -105,9 +120,11 @@ means e f r (filled a) j = cond (eqb (at e j .kids) 0) (of e j []) (means e f r 
 means e f r (replacing a b) j = cond (eqb (at e j .kind) REPLACE) (means e f r a j) (means e f r b j)
 means e f r decimal j = ofKind e NUMBER j (id (decimal.decimal (numberOf (at e j))) ∷ [])
 means e f r brackets j = ofKind e NUMBER j (pairs (min (at e j .start) 255))
-means e f r quoted j = ofKind e TEXT j (quote (part e (at e j)) ∷ [])
+means e f r quoted j = ofKind e TEXT j (quote (e .edition) (part e (at e j)) ∷ [])
 means e f r rowid j = ofKind e TEXT j (without (part e (at e j)))
 means e f r source j = checked e (placed e f run j .tokens) (placed e f run j .next)
+means e f r (both a b) j =
+    record { tokens = means e f r a j .tokens ++ (between (e .edition) (means e f r a j .tokens) (means e f r b (means e f r a j .next) .tokens) ++ means e f r b (means e f r a j .next) .tokens); next = means e f r b (means e f r a j .next) .next }
 means e f r (later a b) j =
     record { tokens = means e f r b (means e f r a j .next) .tokens ++ means e f r a j .tokens; next = means e f r b (means e f r a j .next) .next }
 means e f r (a · b) j = then (means e f r a j) (means e f r b)

@@ -14,16 +14,20 @@ use Rattle.spelling.specs.Rows.{rows}
 use Rattle.spelling.specs.Spelling as spellings
 use Rattle.spelling.specs.Spelling.{spelling}
 use Rattle.spelling.specs.Token.{TK-LP, TK-RP, TK-LBRACKET, TK-RBRACKET, TK-WITHOUT}
-use Rattle.stream.specs.Stream.{tight, gap, blob, written, added, adds}
+use Rattle.mode.specs.declared.Edition.{Edition}
+use Rattle.mode.specs.declared.Edition.the-variants.{Crate, Sqlite}
+use Rattle.mode.specs.Options.{isSqlite}
+use Rattle.stream.specs.Stream.{Token, tight, gap, blob, written, added, adds}
+use Rattle.stream.specs.Doubled.{doubled-length}
 use Rattle.stream.specs.Length.{longestToken, weigh, weigh-append, weigh-none, weigh-one}
 use Rattle.white.specs.Parts.{parts, second}
 use Rattle.record.specs.Record.{signed, numberOf}
 use Rattle.record.specs.Laws.{signed-low, signed-high}
 use Rattle.record.specs.declared.Record.{Record}
-use Rattle.grammar.specs.Shape.{Shape, nothing, token, ident, word, said, line, when, is, slot, each, commas, row, lines, tuples, given, filled, replacing, decimal, brackets, quoted, rowid, source, later, _·_}
+use Rattle.grammar.specs.Shape.{Shape, nothing, token, ident, word, said, line, when, is, slot, each, commas, row, lines, tuples, given, filled, replacing, decimal, brackets, quoted, rowid, source, both, later, _·_}
 use Rattle.grammar.specs.Grammar.{table, lookup, shape}
-use Rattle.tokens.specs.Corners.{bare, id, newline, secondPart, without, dashes, sourced, quote, pairs}
-use Rattle.tokens.specs.Tokens.{comma}
+use Rattle.tokens.specs.Corners.{bare, id, newline, secondPart, without, dashes, sourced, inner, quote, pairs}
+use Rattle.tokens.specs.Tokens.{comma, anything, between}
 
 -- no tree and no text is longer than this, and no LIST has more elements
 abbrev pub longest : ℕ
@@ -61,6 +65,7 @@ base brackets = 0
 base quoted = 0
 base rowid = 0
 base source = 0
+base (both a b) = base a + around + base b
 base (later a b) = base a + base b
 base (a · b) = base a + base b
 
@@ -131,9 +136,22 @@ without-weight x = by (eqb (length (parts x)) 2)
         omega (arith, weigh-append (bare TK-WITHOUT ∷ []) (id (secondPart x) ∷ []), weigh-one (bare TK-WITHOUT), weigh-one (id (secondPart x)), cut-short (s .len) (s .start) x)
     by false = omega (arith, weigh-none)
 
-pub quote-weight : (x : List ℕ) → weigh (quote x ∷ []) ≤ longestToken + 2 + length x
+pub between-weight : (v : Edition) (ts us : List Token) → weigh (between v ts us) ≤ 1
+unfolding between
+between-weight v ts us = by (isSqlite v && (anything ts && anything us))
+  where
+    by : (b : Bool) → weigh (cond b comma []) ≤ 1
+    by true = omega (arith, comma-weight)
+    by false = omega (arith, weigh-none)
+
+inner-length : (v : Edition) (x : List ℕ) → length (inner v x) ≤ 2 * length x
+unfolding inner
+inner-length Crate x = omega arith
+inner-length Sqlite x = doubled-length x
+
+pub quote-weight : (v : Edition) (x : List ℕ) → weigh (quote v x ∷ []) ≤ longestToken + 2 + 2 * length x
 unfolding quote
-quote-weight x = omega (arith, weigh-one (quote x), length-append x (ascii "'"))
+quote-weight v x = omega (arith, weigh-one (quote v x), length-append (inner v x) (ascii "'"), inner-length v x)
 
 -- a NUMBER is of 64 bits
 pub number-fits : (r : Record) → r .start < 2 ^ 32 → r .len < 2 ^ 32 → natAbs (numberOf r) ≤ 2 ^ 63

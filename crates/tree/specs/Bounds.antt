@@ -7,6 +7,7 @@ use mathlib.Core.Bool.{Bool, true, false, not, cond, _&&_, _||_, false≢true}
 use lib.Dec.{eqb, ltb}
 use lib.ListN.{length}
 use borrow.Author.Tests.{ltb-false}
+use Rattle.mode.specs.Options.{isSqlite}
 use Rattle.mode.specs.declared.Mode.{Mode}
 use Rattle.utf8.specs.Rfc3629 as utf8
 use Rattle.utf8.specs.Rfc3629.{Encoded}
@@ -14,9 +15,9 @@ use Rattle.utf8.specs.Laws as utf8laws
 use Rattle.utf8.specs.declared.Encoding.{Encoding}
 use Rattle.record.specs.Record.{recordAt, count, markOk}
 use Rattle.grammar.specs.Grammar.{root}
-use Rattle.tree.specs.Check.{Place, place, holds, fits, inside, swallows, deepest, faultsIn, scanIn, longest, malformed, answerIn, ChecksIn, numberOf, placeOf}
+use Rattle.tree.specs.Check.{Place, place, holds, fits, inside, swallows, misnames, deepest, faultsIn, scanIn, longest, malformed, answerIn, ChecksIn, numberOf, placeOf}
 use Rattle.tree.specs.declared.Answer.{Answer}
-use Rattle.tree.specs.declared.Answer.the-variants.{Admitted, Malformed, TooLong, Broken, Mark, Misfit, Outside, Unclosed, Deep, Ends}
+use Rattle.tree.specs.declared.Answer.the-variants.{Admitted, Malformed, TooLong, Broken, Mark, Misfit, Outside, Unclosed, NotRowid, Deep, Ends}
 
 -- a number of 01's table
 pub number-small : (a : Answer) → numberOf a < 16
@@ -28,6 +29,7 @@ number-small (Mark i) = omega arith
 number-small (Misfit i) = omega arith
 number-small (Outside i) = omega arith
 number-small (Unclosed i) = omega arith
+number-small (NotRowid i) = omega arith
 number-small (Deep i) = omega arith
 number-small (Ends i) = omega arith
 
@@ -53,7 +55,8 @@ scan-place m t x (suc n) i (p ∷ ps) =
     (either (i + suc n) (not (fits (p .class) r)) (Misfit i) _ (omega arith)
     (either (i + suc n) (not (inside x r)) (Outside i) _ (omega arith)
     (either (i + suc n) (m .strict && swallows x (p .class) r) (Unclosed i) _ (omega arith)
-    (either (i + suc n) (ltb deepest (p .depth)) (Deep i) _ (omega arith) after))))
+    (either (i + suc n) (isSqlite (m .edition) && misnames x (p .class) r) (NotRowid i) _ (omega arith)
+    (either (i + suc n) (ltb deepest (p .depth)) (Deep i) _ (omega arith) after)))))
 
 -- ---- 1 and 2 come first, so what follows them is not over-long
 neither : (a b : Bool) → (a || b) ≡ false → (a ≡ false) × (b ≡ false)

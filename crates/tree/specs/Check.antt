@@ -1,5 +1,5 @@
 -- 01, section 3: what a tree and a text are answered by. "Order: 1, 2, then the records by index, and at each 3, 4, 5, 6; then 7."
--- 02, vii: and in a mode with the switch on 9, "checked at each record after 5 and before 6".
+-- 02, vii and viii: in a mode with the switch on 9, "checked at each record after 5 and before 6", and in SQLite's edition 10, "after 9 and before 6".
 use Prim.Native.Nat.{ℕ, zero, suc, _+_, _%_}
 use mathlib.Core.Path.{_≡_}
 use mathlib.Core.List.{List, [], _∷_, _++_, map}
@@ -7,9 +7,10 @@ use mathlib.Core.Bool.{Bool, true, false, not, cond, _&&_, _||_}
 use lib.Dec.{leb, ltb, eqb}
 use lib.ListN.{length, replicate}
 use Rattle.laws.specs.First.{first}
-use Rattle.mode.specs.Options.{plain}
+use Rattle.mode.specs.Options.{isSqlite, plain}
 use Rattle.mode.specs.declared.Mode.{Mode}
 use Rattle.source.specs.Source.{endsInside}
+use Rattle.rowid.specs.Rowid.{names}
 use Rattle.utf8.specs.Rfc3629 as utf8
 use Rattle.utf8.specs.Rfc3629.{Encoded, boundary}
 use Rattle.utf8.specs.declared.Encoding.{Encoding}
@@ -17,11 +18,11 @@ use Rattle.spelling.specs.Spelling.{known}
 use Rattle.record.specs.Record.{part, recordAt, count, markOk}
 use Rattle.record.specs.declared.Record.{Record}
 use Rattle.grammar.specs.Kind.{LIST, TOKEN, RUN, TEXT, NUMBER}
-use Rattle.grammar.specs.Shape.{Class, one, list, oneOr, small, checkSource, ruled}
+use Rattle.grammar.specs.Shape.{Class, one, list, oneOr, small, checkSource, withoutRowid, ruled}
 use Rattle.grammar.specs.Grammar.{shape, root}
 use Rattle.grammar.specs.Slots.{slotsOf, flagsBelow, allowed, elements}
 use Rattle.tree.specs.declared.Answer.{Answer}
-use Rattle.tree.specs.declared.Answer.the-variants.{Admitted, Malformed, TooLong, Broken, Mark, Misfit, Outside, Unclosed, Deep, Ends}
+use Rattle.tree.specs.declared.Answer.the-variants.{Admitted, Malformed, TooLong, Broken, Mark, Misfit, Outside, Unclosed, NotRowid, Deep, Ends}
 
 -- a place that a record must stand in: what may stand there, and how deep it is, the root being 1
 pub record Place : Type 0 where
@@ -70,21 +71,32 @@ inside x r =
 -- "a CHECK source that ends inside a block comment or inside one of the three quotes" (02, vii)
 unfoldable pub swallows : List ℕ → Class → Record → Bool
 swallows x (ruled checkSource) r = eqb (r .kind) TEXT && endsInside (part x (r .start) (r .len))
+swallows x (ruled withoutRowid) r = false
 swallows x (one ks) r = false
 swallows x (list c) r = false
 swallows x (oneOr ks c) r = false
 swallows x small r = false
 
+-- "a without-rowid text accepted only if its two parts are WITHOUT and ROWID" (02, viii)
+unfoldable pub misnames : List ℕ → Class → Record → Bool
+misnames x (ruled withoutRowid) r = eqb (r .kind) TEXT && not (names (part x (r .start) (r .len)))
+misnames x (ruled checkSource) r = false
+misnames x (one ks) r = false
+misnames x (list c) r = false
+misnames x (oneOr ks c) r = false
+misnames x small r = false
+
 abbrev pub deepest : ℕ
 deepest = 64
 
--- at each record 3, 4, 5, with the switch on 9, and 6
+-- at each record 3, 4, 5, with the switch on 9, in SQLite's edition 10, and 6
 unfoldable pub faultsIn : Mode → List ℕ → Record → ℕ → Place → List (Bool × Answer)
 faultsIn m x r i p =
     (not (markOk r), Mark i)
     ∷ (not (fits (p .class) r), Misfit i)
     ∷ (not (inside x r), Outside i)
     ∷ (m .strict && swallows x (p .class) r, Unclosed i)
+    ∷ (isSqlite (m .edition) && misnames x (p .class) r, NotRowid i)
     ∷ (ltb deepest (p .depth), Deep i)
     ∷ []
 
@@ -116,7 +128,7 @@ pub record ChecksIn (m : Mode) (t x : List ℕ) (answer : Answer) : Type 0 where
   pub encoded : Encoded x encoding
   pub answers : answer ≡ answerIn m encoding t x
 
--- 01 as it is: the switch is off
+-- 01 as it is: the switch is off, and the edition is the crate's
 abbrev pub faults : List ℕ → Record → ℕ → Place → List (Bool × Answer)
 faults = faultsIn plain
 
@@ -139,6 +151,7 @@ numberOf (Mark i) = 3
 numberOf (Misfit i) = 4
 numberOf (Outside i) = 5
 numberOf (Unclosed i) = 9
+numberOf (NotRowid i) = 10
 numberOf (Deep i) = 6
 numberOf (Ends i) = 7
 
@@ -151,5 +164,6 @@ placeOf (Mark i) = i
 placeOf (Misfit i) = i
 placeOf (Outside i) = i
 placeOf (Unclosed i) = i
+placeOf (NotRowid i) = i
 placeOf (Deep i) = i
 placeOf (Ends i) = i

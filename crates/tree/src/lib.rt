@@ -53,6 +53,8 @@ const OUTSIDE: u64 = 5;
 
 const UNCLOSED: u64 = 9;
 
+const NOT_ROWID: u64 = 10;
+
 const DEEP: u64 = 6;
 
 const ENDS: u64 = 7;
@@ -74,6 +76,8 @@ pub enum Answer {
     Outside(usize),
     // The same in a mode: a CHECK's source that ends inside a comment or a quote (02, vii).
     Unclosed(usize),
+    // The same: a without-rowid text that does not say WITHOUT ROWID (02, viii).
+    NotRowid(usize),
     // Again at a record: too deep.
     Deep(usize),
     // A needed record is past the end, or records are left over.
@@ -315,6 +319,7 @@ pub fn number(a: Answer) -> u64
         Answer::Misfit(_) => MISFIT,
         Answer::Outside(_) => OUTSIDE,
         Answer::Unclosed(_) => UNCLOSED,
+        Answer::NotRowid(_) => NOT_ROWID,
         Answer::Deep(_) => DEEP,
         Answer::Ends(_) => ENDS,
     }
@@ -333,6 +338,7 @@ pub fn place(a: Answer) -> usize
         Answer::Misfit(i) => i,
         Answer::Outside(i) => i,
         Answer::Unclosed(i) => i,
+        Answer::NotRowid(i) => i,
         Answer::Deep(i) => i,
         Answer::Ends(i) => i,
     }

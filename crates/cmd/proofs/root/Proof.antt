@@ -13,7 +13,7 @@ returns c =
     let at-pass = at-if1 .before .before in
     let at-read = at-pass .before in
     let at-args = at-read .before .before .before .before .before in
-    root-list (at-args .args .text .now) (at-read .read .ensures) (at-pass .pass .ensures) (at-if1 .if1 .taken) (at-root-elements .root-elements .ensures)
+    root-list (at-args .args .text .now) (at-args .args .edition) (at-read .read .ensures) (at-pass .pass .ensures) (at-if1 .if1 .taken) (at-root-elements .root-elements .ensures)
 
 returns-2 : tie.Need-returns-2
 returns-2 c =
@@ -22,7 +22,7 @@ returns-2 c =
     let at-pass = at-if2 .before .before .before .before in
     let at-read = at-pass .before in
     let at-args = at-read .before .before .before .before .before in
-    root-cmd (at-args .args .text .now) (at-read .read .ensures) (at-pass .pass .ensures) (at-if2 .if2 .taken) (at-cmd .cmd .ensures _ refl)
+    root-cmd (at-args .args .text .now) (at-args .args .edition) (at-read .read .ensures) (at-pass .pass .ensures) (at-if2 .if2 .taken) (at-cmd .cmd .ensures _ refl)
 
 returns-3 : tie.Need-returns-3
 returns-3 c =
@@ -31,7 +31,7 @@ returns-3 c =
     let at-if1 = at-if2 .before .before in
     let at-read = at-if1 .before .before .before in
     let at-args = at-read .before .before .before .before .before in
-    root-else (at-args .args .text .now) (at-read .read .ensures) (at-if1 .if1 .left) (at-if2 .if2 .left) (at-root-element .root-element .ensures records.nothing)
+    root-else (at-args .args .text .now) (at-args .args .edition) (at-read .read .ensures) (at-if1 .if1 .left) (at-if2 .if2 .left) (at-root-element .root-element .ensures records.nothing)
 
 pub root-spec : {M : Type 1} → statement M
 root-spec =

@@ -2,23 +2,25 @@
 use borrow.Author.Needs.{needs}
 use mathlib.Core.Path.{_≡_, _∙_}
 use mathlib.Core.List.{[]}
+use Rattle.mode.specs.declared.Edition.the-variants.{Crate}
 use Rattle.record.specs.Laws as records
 use Rattle.grammar.specs.Shape.{one}
 use Rattle.grammar.specs.Grammar.{rootKinds}
 use Rattle.tokens.specs.Tokens.{rows, placed, comma, means, node}
-use Rattle.pen.specs.Pen.{source, put}
+use Rattle.tokens.specs.Tokens.{inEdition}
+use Rattle.pen.specs.Pen.{put}
 use Rattle.pen.specs.Laws.{puts-length}
 use Rattle.pen.specs.Rows.{opt, row-first, row-done}
 use Rattle.cmd.proofs.root_elements.Statement.{statement}
 use Rattle.cmd.proofs.root_elements.Tie as tie
 
 abbrev Inv-loop : tie.InvT-loop
-Inv-loop out₀ pool tree text left n q₀ rest₀ lead₀ out q rest lead =
-    put pool (rows (placed (source tree text) (node (source tree text) left) (one rootKinds)) (opt lead comma) comma rest (q .next)) (q, out)
-    ≡ put pool (rows (placed (source tree text) (node (source tree text) left) (one rootKinds)) [] comma n (q₀ .next)) (q₀, out₀)
+Inv-loop out₀ pool tree text left n edition q₀ rest₀ lead₀ out q rest lead =
+    put pool (rows (placed (inEdition tree text edition) (node (inEdition tree text edition) left) (one rootKinds)) (opt lead comma) comma rest (q .next)) (q, out)
+    ≡ put pool (rows (placed (inEdition tree text edition) (node (inEdition tree text edition) left) (one rootKinds)) [] comma n (q₀ .next)) (q₀, out₀)
 
 abbrev μ-loop : tie.MeasureT-loop
-μ-loop out₀ pool tree text left n q₀ rest₀ lead₀ out q rest lead = rest
+μ-loop out₀ pool tree text left n edition q₀ rest₀ lead₀ out q rest lead = rest
 
 loop-again : tie.Need-loop-again Inv-loop μ-loop
 unfolding means
@@ -27,7 +29,7 @@ loop-again c =
     let at-comma-if = at-root-element .before .before .before .before in
     let at-loop-test = at-comma-if .before .before in
     let at-loop = at-loop-test .before in
-    row-first _ _ _ _ (at-loop-test .loop-test .taken) (at-comma-if .comma-if .ensures) (at-root-element .root-element .ensures records.nothing .puts) ∙ at-loop .loop .inv
+    row-first _ _ _ _ (at-loop-test .loop-test .taken) (at-comma-if .comma-if .ensures) (at-root-element .root-element .ensures records.nothing .puts Crate) ∙ at-loop .loop .inv
 
 returns : tie.Need-returns Inv-loop μ-loop
 returns c =

@@ -1,20 +1,16 @@
--- `corners::quoted` writes a TEXT between quotes.
+-- `corners::quoted` writes a TEXT between quotes, as its edition has it.
 use borrow.Author.Needs.{needs}
-use Rattle.grammar.specs.Kind.{TEXT}
-use Rattle.tokens.specs.Tokens.{means}
-use Rattle.parts.specs.Laws.{of-other}
 use Rattle.pen.specs.Laws.{appended}
-use Rattle.corners.specs.Laws.{a-quote}
+use Rattle.corners.specs.Laws.{no-quote, a-quote}
 use Rattle.corners.proofs.quoted.Statement.{statement}
 use Rattle.corners.proofs.quoted.Tie as tie
 
 returns : tie.Need-returns
-unfolding means
 returns c d r =
     let at-pass = c .before .before in
     let at-read = at-pass .before in
     let at-args = at-read .before .before .before .before .before in
-    record { puts = of-other (at-args .args .text .now) TEXT (at-read .read .ensures) (at-pass .pass .ensures) _ (c .if1 .taken) }
+    no-quote (at-args .args .text .now) (at-read .read .ensures) (at-pass .pass .ensures) (c .if1 .taken)
 
 returns-2 : tie.Need-returns-2
 returns-2 c d r =
@@ -25,7 +21,7 @@ returns-2 c d r =
     let at-pass = at-if1 .before .before in
     let at-read = at-pass .before in
     let at-args = at-read .before .before .before .before .before in
-    a-quote (at-args .args .text .now) (at-read .read .ensures) (at-pass .pass .ensures) (at-if1 .if1 .left) (at-part .part .ensures) (appended (at-of .of .ensures) (at-quoted .quoted .ensures))
+    a-quote (at-args .args .text .now) (at-read .read .ensures) (at-pass .pass .ensures) (at-if1 .if1 .left) (at-part .part .ensures) (appended (at-of .of .ensures) (at-quoted .in-edition .ensures))
 
 pub quoted-spec : {M : Type 1} → statement M
 quoted-spec =

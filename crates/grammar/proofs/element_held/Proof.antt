@@ -12,7 +12,7 @@ use Rattle.grammar.proofs.element_held.Tie as tie
 line : {n k : ℕ} → n ≡ k → elementOf k ≡ elementOf n
 line e = ap elementOf (sym e)
 
-rest : tie.Need-returns-51
+rest : tie.Need-returns-52
 rest c = absurd (omega (arith, apart classesHeld (c .before .args .place) (c .match .rest)))
 
 pub element-held-spec : {M : Type 1} → statement M
@@ -29,5 +29,5 @@ element-held-spec =
     (λ c. line (c .match .keys31)) (λ c. line (c .match .keys32)) (λ c. line (c .match .keys33)) (λ c. line (c .match .keys34)) (λ c. line (c .match .keys35))
     (λ c. line (c .match .keys36)) (λ c. line (c .match .keys37)) (λ c. line (c .match .keys38)) (λ c. line (c .match .keys39)) (λ c. line (c .match .keys40))
     (λ c. line (c .match .keys41)) (λ c. line (c .match .keys42)) (λ c. line (c .match .keys43)) (λ c. line (c .match .keys44)) (λ c. line (c .match .keys45))
-    (λ c. line (c .match .keys46)) (λ c. line (c .match .keys47)) (λ c. line (c .match .keys48)) (λ c. line (c .match .keys49)) (λ c. line (c .match .keys50))
+    (λ c. line (c .match .keys46)) (λ c. line (c .match .keys47)) (λ c. line (c .match .keys48)) (λ c. line (c .match .keys49)) (λ c. line (c .match .keys50)) (λ c. line (c .match .keys51))
     rest)

@@ -23,7 +23,7 @@ returns c =
     let at-pre = c .before .before .before .before .before .before .before .before .before .before .before .pre in
     let at-copy = c .before .before .copy in
     let at-if1 = c .before .before .before .before .before .if1 in
-    copied (at-args .tree .now) (at-args .text .now) (at-args .out .now) (at-args .draft .now) _ (at-args .length)
+    copied (at-args .edition) (at-args .tree .now) (at-args .text .now) (at-args .out .now) (at-args .draft .now) _ (at-args .length)
     (at-pre .1 .0) (at-pre .1 .1 .0) (at-if1 .taken) (at-pre .1 .1 .1)
     (rw (length-take-le _ (at-args .draft .now) (at-if1 .taken)) at (at-copy .ensures .1))
 

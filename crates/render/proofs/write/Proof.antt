@@ -13,7 +13,7 @@ returns c =
     let at-pre = c .before .before .before .before .before .before .before .before .pre in
     let at-to-tokens = c .before .before .to-tokens in
     let room : length (at-args .out .now) ≤ most = search needs in
-    writes _ _ _ _ _ at-pre room (at-to-tokens .ensures)
+    writes _ _ _ _ _ _ at-pre room (at-to-tokens .ensures)
 
 pub write-spec : {M : Type 1} → statement M
 write-spec = tie.close (tie.spec (λ c κs. search needs) (λ c. search needs) returns)

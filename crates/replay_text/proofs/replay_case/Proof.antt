@@ -7,6 +7,9 @@ use borrow.Author.Needs.{needs}
 use Rattle.replay_text.proofs.replay_case.Statement.{statement}
 use Rattle.replay_text.proofs.replay_case.Tie as tie
 
+cast-replay-parts : tie.Need-cast-replay-parts
+cast-replay-parts c = record { fits = omega (arith, c .before .before .before .before .word .ensures .1) }
+
 slice-aggregate-replay-parts : tie.Need-slice-aggregate-replay-parts
 slice-aggregate-replay-parts c = sym (length-take-le _ _ (omega arith))
 
@@ -20,6 +23,7 @@ replay-case-spec =
     (λ c. search needs) (λ c κs. search needs) (λ c. search needs) (λ c. search needs) (λ c κs. search needs)
     (λ c. search needs) (λ c. search needs) (λ c. search needs) (λ c. search needs) (λ c. search needs)
     (λ c κs. search needs) (λ c. search needs) (λ c. search needs) (λ c. search needs) (λ c. search needs)
-    (λ c κs. search needs) (λ c. search needs) (λ c κs. search needs) (λ c. search needs) (λ c. search needs)
-    slice-aggregate-replay-parts (λ c. search needs) slice-aggregate-replay-parts-2 (λ c κs. search needs)
+    (λ c κs. search needs) (λ c. search needs) (λ c. search needs) (λ c. search needs) (λ c. search needs)
+    (λ c κs. search needs) (λ c. search needs) (λ c κs. search needs) (λ c. search needs) cast-replay-parts
+    (λ c. search needs) slice-aggregate-replay-parts (λ c. search needs) slice-aggregate-replay-parts-2 (λ c κs. search needs)
     (λ c. search needs) (λ c. search needs) (λ c. search needs))

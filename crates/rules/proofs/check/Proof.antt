@@ -2,6 +2,7 @@
 -- first that breaks a rule, which is the answer, or 01's is.
 use Rattle.tree.specs.Bounds.{place-small}
 use Rattle.rules.specs.Whole.{as-plain, led, in-mode}
+use mathlib.Core.Bool.{_||_}
 use borrow.Author.Tests.{not-true}
 use native.Mathlib.Omega.{arith}
 use borrow.Author.Needs.{needs}
@@ -10,22 +11,24 @@ use Rattle.rules.proofs.check.Tie as tie
 
 returns : tie.Need-returns
 returns c =
-    let at-args = c .before .before .before .before .args in
-    as-plain _ _ _ _ (not-true (at-args .mode .strict) (c .if1 .taken)) (c .before .check .ensures)
+    let at-sqlite = c .before in
+    let at-check = at-sqlite .before in
+    let args = at-check .before .before .before .args in
+    as-plain _ _ _ _ (rw (at-sqlite .sqlite .ensures) at (not-true (args .mode .strict || at-sqlite .sqlite .result) (c .if1 .taken))) (at-check .check .ensures)
 
 sound-to-requires : tie.Need-sound-to-requires
-sound-to-requires c κs = place-small (c .before .check .ensures)
+sound-to-requires c κs = place-small (c .before .before .check .ensures)
 
 rule-row-requires : tie.Need-rule-row-requires
 rule-row-requires c κs =
-    let at-check = c .before .before .check in
+    let at-check = c .before .before .before .check in
     (omega arith, rw (c .sound-to .ensures) (led _ _ _ (at-check .ensures)))
 
 returns-2 : tie.Need-returns-2
 returns-2 c =
     let at-sound-to = c .before .before .sound-to in
-    let at-check = c .before .before .before .before .check in
+    let at-check = c .before .before .before .before .before .check in
     rw (c .ruled .ensures) (in-mode _ _ _ _ (at-check .ensures) _ (rw (at-sound-to .ensures) at (c .before .rule-row .ensures)))
 
 pub check-spec : {M : Type 1} → statement M
-check-spec = tie.close (tie.spec (λ c κs. search needs) returns sound-to-requires rule-row-requires (λ c κs. search needs) returns-2)
+check-spec = tie.close (tie.spec (λ c κs. search needs) (λ c κs. search needs) returns sound-to-requires rule-row-requires (λ c κs. search needs) returns-2)

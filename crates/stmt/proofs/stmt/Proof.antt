@@ -1,5 +1,6 @@
 -- `stmt` goes to the group of statements that the kind is in.
 use borrow.Author.Needs.{needs}
+use Rattle.pen.specs.Laws.{in-one}
 use Rattle.pen.specs.Places.{alike}
 use Rattle.stmt.specs.Laws.{in-first, in-second, in-third}
 use Rattle.stmt.proofs.stmt.Statement.{statement}
@@ -18,7 +19,7 @@ returns-2 c r =
     let at-if2 = at-stmt-to-rollback .before .before in
     let at-if1 = at-if2 .before .before in
     let at-read = at-if1 .before .before in
-    alike (at-read .read .ensures) (in-second _ (at-if1 .if1 .left) (at-if2 .if2 .taken)) (at-stmt-to-rollback .stmt-to-rollback .ensures r)
+    alike (at-read .read .ensures) (in-second _ (at-if1 .if1 .left) (at-if2 .if2 .taken)) (in-one (at-stmt-to-rollback .stmt-to-rollback .ensures r))
 
 returns-3 : tie.Need-returns-3
 returns-3 c r =

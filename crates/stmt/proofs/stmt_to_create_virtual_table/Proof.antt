@@ -4,6 +4,7 @@ use mathlib.Core.Path.{refl}
 use borrow.Author.Tests.{ne-eqb}
 use Rattle.grammar.specs.Grammar.{shape}
 use Rattle.grammar.specs.Kind.{AlterTable, Analyze, Attach, Begin, Commit, CreateIndex, CreateTable, CreateTrigger, CreateView, CreateMaterializedView, CreateVirtualTable}
+use Rattle.pen.specs.Laws.{in-one}
 use Rattle.pen.specs.Places.{shallow, other, node-on, optional-last}
 use native.Mathlib.Omega.{arith}
 use Rattle.stmt.proofs.stmt_to_create_virtual_table.Statement.{statement}
@@ -14,7 +15,7 @@ returns c r =
     let at-run = c .before .before in
     let at-if1 = at-run .before .before in
     let at-read = at-if1 .before in
-    shallow (at-read .read .ensures) (at-run .run .ensures _ r) (at-if1 .if1 .taken) refl
+    shallow (at-read .read .ensures) (in-one (at-run .run .ensures _ r)) (at-if1 .if1 .taken) refl
 
 returns-2 : tie.Need-returns-2
 unfolding shape
@@ -24,7 +25,7 @@ returns-2 c r =
     let at-pass = at-if2 .before .before .before .before .before in
     let at-if1 = at-pass .before in
     let at-read = at-if1 .before in
-    node-on (at-read .read .ensures) AlterTable (at-if2 .if2 .taken) refl (at-if1 .if1 .left) (at-pass .pass .ensures) (at-alter-table .alter-table .ensures _)
+    node-on (at-read .read .ensures) AlterTable (at-if2 .if2 .taken) refl (at-if1 .if1 .left) (at-pass .pass .ensures) (in-one (at-alter-table .alter-table .ensures _))
 
 returns-3 : tie.Need-returns-3
 unfolding shape
@@ -34,7 +35,7 @@ returns-3 c r =
     let at-pass = at-if3 .before .before .before .before .before .before .before in
     let at-if1 = at-pass .before in
     let at-read = at-if1 .before in
-    node-on (at-read .read .ensures) Analyze (at-if3 .if3 .taken) refl (at-if1 .if1 .left) (at-pass .pass .ensures) (optional-last (at-word-run .word-run .ensures _ _))
+    node-on (at-read .read .ensures) Analyze (at-if3 .if3 .taken) refl (at-if1 .if1 .left) (at-pass .pass .ensures) (in-one (optional-last (at-word-run .word-run .ensures _ _)))
 
 returns-4 : tie.Need-returns-4
 unfolding shape
@@ -44,7 +45,7 @@ returns-4 c r =
     let at-pass = at-if4 .before .before .before .before .before .before .before .before .before in
     let at-if1 = at-pass .before in
     let at-read = at-if1 .before in
-    node-on (at-read .read .ensures) Attach (at-if4 .if4 .taken) refl (at-if1 .if1 .left) (at-pass .pass .ensures) (at-attach .attach .ensures _ _)
+    node-on (at-read .read .ensures) Attach (at-if4 .if4 .taken) refl (at-if1 .if1 .left) (at-pass .pass .ensures) (in-one (at-attach .attach .ensures _ _))
 
 returns-5 : tie.Need-returns-5
 unfolding shape
@@ -54,7 +55,7 @@ returns-5 c r =
     let at-pass = at-if5 .before .before .before .before .before .before .before .before .before .before .before in
     let at-if1 = at-pass .before in
     let at-read = at-if1 .before in
-    node-on (at-read .read .ensures) Begin (at-if5 .if5 .taken) refl (at-if1 .if1 .left) (at-pass .pass .ensures) (at-begin .begin .ensures _ _)
+    node-on (at-read .read .ensures) Begin (at-if5 .if5 .taken) refl (at-if1 .if1 .left) (at-pass .pass .ensures) (in-one (at-begin .begin .ensures _ _))
 
 returns-6 : tie.Need-returns-6
 unfolding shape
@@ -64,7 +65,7 @@ returns-6 c r =
     let at-pass = at-if6 .before .before .before .before .before .before .before .before .before .before .before .before .before in
     let at-if1 = at-pass .before in
     let at-read = at-if1 .before in
-    node-on (at-read .read .ensures) Commit (at-if6 .if6 .taken) refl (at-if1 .if1 .left) (at-pass .pass .ensures) (at-commit .commit .ensures _ _)
+    node-on (at-read .read .ensures) Commit (at-if6 .if6 .taken) refl (at-if1 .if1 .left) (at-pass .pass .ensures) (in-one (at-commit .commit .ensures _ _))
 
 returns-7 : tie.Need-returns-7
 unfolding shape
@@ -76,7 +77,7 @@ returns-7 c r =
     let at-pass = at-first-flag .before in
     let at-if1 = at-pass .before in
     let at-read = at-if1 .before in
-    node-on (at-read .read .ensures) CreateIndex (at-if7 .if7 .taken) refl (at-if1 .if1 .left) (at-pass .pass .ensures) (at-create-index .create-index .ensures _ (at-first-flag .first-flag .ensures _ refl) (at-second-flag .second-flag .ensures _ refl))
+    node-on (at-read .read .ensures) CreateIndex (at-if7 .if7 .taken) refl (at-if1 .if1 .left) (at-pass .pass .ensures) (in-one (at-create-index .create-index .ensures _ (at-first-flag .first-flag .ensures _ refl) (at-second-flag .second-flag .ensures _ refl)))
 
 returns-8 : tie.Need-returns-8
 unfolding shape
@@ -101,7 +102,7 @@ returns-9 c r =
     let at-pass = at-first-flag .before in
     let at-if1 = at-pass .before in
     let at-read = at-if1 .before in
-    node-on (at-read .read .ensures) CreateTrigger (at-if9 .if9 .taken) refl (at-if1 .if1 .left) (at-pass .pass .ensures) (at-create-trigger .create-trigger .ensures _ _ (at-first-flag .first-flag .ensures _ refl) (at-second-flag .second-flag .ensures _ refl) (at-third-flag .third-flag .ensures _ refl))
+    node-on (at-read .read .ensures) CreateTrigger (at-if9 .if9 .taken) refl (at-if1 .if1 .left) (at-pass .pass .ensures) (in-one (at-create-trigger .create-trigger .ensures _ _ (at-first-flag .first-flag .ensures _ refl) (at-second-flag .second-flag .ensures _ refl) (at-third-flag .third-flag .ensures _ refl)))
 
 returns-10 : tie.Need-returns-10
 unfolding shape
@@ -113,7 +114,7 @@ returns-10 c r =
     let at-pass = at-first-flag .before in
     let at-if1 = at-pass .before in
     let at-read = at-if1 .before in
-    node-on (at-read .read .ensures) CreateView (at-if10 .if10 .taken) refl (at-if1 .if1 .left) (at-pass .pass .ensures) (at-create-view .create-view .ensures _ (at-first-flag .first-flag .ensures _ refl) (at-second-flag .second-flag .ensures _ refl))
+    node-on (at-read .read .ensures) CreateView (at-if10 .if10 .taken) refl (at-if1 .if1 .left) (at-pass .pass .ensures) (in-one (at-create-view .create-view .ensures _ (at-first-flag .first-flag .ensures _ refl) (at-second-flag .second-flag .ensures _ refl)))
 
 returns-11 : tie.Need-returns-11
 unfolding shape
@@ -124,7 +125,7 @@ returns-11 c r =
     let at-pass = at-first-flag .before in
     let at-if1 = at-pass .before in
     let at-read = at-if1 .before in
-    node-on (at-read .read .ensures) CreateMaterializedView (at-if11 .if11 .taken) refl (at-if1 .if1 .left) (at-pass .pass .ensures) (at-create-materialized-view .create-materialized-view .ensures _ (at-first-flag .first-flag .ensures _ refl))
+    node-on (at-read .read .ensures) CreateMaterializedView (at-if11 .if11 .taken) refl (at-if1 .if1 .left) (at-pass .pass .ensures) (in-one (at-create-materialized-view .create-materialized-view .ensures _ (at-first-flag .first-flag .ensures _ refl)))
 
 returns-12 : tie.Need-returns-12
 unfolding shape
@@ -135,7 +136,7 @@ returns-12 c r =
     let at-pass = at-first-flag .before in
     let at-if1 = at-pass .before in
     let at-read = at-if1 .before in
-    node-on (at-read .read .ensures) CreateVirtualTable (at-if12 .if12 .taken) refl (at-if1 .if1 .left) (at-pass .pass .ensures) (at-create-virtual-table .create-virtual-table .ensures _ _ (at-first-flag .first-flag .ensures _ refl))
+    node-on (at-read .read .ensures) CreateVirtualTable (at-if12 .if12 .taken) refl (at-if1 .if1 .left) (at-pass .pass .ensures) (in-one (at-create-virtual-table .create-virtual-table .ensures _ _ (at-first-flag .first-flag .ensures _ refl)))
 
 returns-13 : tie.Need-returns-13
 returns-13 c r =
@@ -152,7 +153,7 @@ returns-13 c r =
     let at-if3 = at-if4 .before .before in
     let at-if2 = at-if3 .before .before in
     let at-read = at-if2 .before .before .before .before .before .before .before in
-    other (at-read .read .ensures) (at-run2 .run2 .ensures _ r) (rw (ne-eqb _ AlterTable (at-if2 .if2 .left), ne-eqb _ Analyze (at-if3 .if3 .left), ne-eqb _ Attach (at-if4 .if4 .left), ne-eqb _ Begin (at-if5 .if5 .left), ne-eqb _ Commit (at-if6 .if6 .left), ne-eqb _ CreateIndex (at-if7 .if7 .left), ne-eqb _ CreateTable (at-if8 .if8 .left), ne-eqb _ CreateTrigger (at-if9 .if9 .left), ne-eqb _ CreateView (at-if10 .if10 .left), ne-eqb _ CreateMaterializedView (at-if11 .if11 .left), ne-eqb _ CreateVirtualTable (at-if12 .if12 .left)))
+    other (at-read .read .ensures) (in-one (at-run2 .run2 .ensures _ r)) (rw (ne-eqb _ AlterTable (at-if2 .if2 .left), ne-eqb _ Analyze (at-if3 .if3 .left), ne-eqb _ Attach (at-if4 .if4 .left), ne-eqb _ Begin (at-if5 .if5 .left), ne-eqb _ Commit (at-if6 .if6 .left), ne-eqb _ CreateIndex (at-if7 .if7 .left), ne-eqb _ CreateTable (at-if8 .if8 .left), ne-eqb _ CreateTrigger (at-if9 .if9 .left), ne-eqb _ CreateView (at-if10 .if10 .left), ne-eqb _ CreateMaterializedView (at-if11 .if11 .left), ne-eqb _ CreateVirtualTable (at-if12 .if12 .left)))
 
 pub stmt-to-create-virtual-table-spec : {M : Type 1} → statement M
 stmt-to-create-virtual-table-spec =

@@ -4,6 +4,7 @@ use mathlib.Core.Path.{refl}
 use borrow.Author.Tests.{ne-eqb}
 use Rattle.grammar.specs.Grammar.{shape}
 use Rattle.grammar.specs.Kind.{Savepoint, SelectStmt, Update, Vacuum, CreateType, CreateDomain, DropType, CreateSequence, DropSequence, DropDomain}
+use Rattle.pen.specs.Laws.{in-one}
 use Rattle.pen.specs.Places.{shallow, other, node-on}
 use Rattle.stmt.proofs.stmt_to_drop_domain.Statement.{statement}
 use Rattle.stmt.proofs.stmt_to_drop_domain.Tie as tie
@@ -13,7 +14,7 @@ returns c r =
     let at-run = c .before .before in
     let at-if1 = at-run .before .before in
     let at-read = at-if1 .before in
-    shallow (at-read .read .ensures) (at-run .run .ensures _ r) (at-if1 .if1 .taken) refl
+    shallow (at-read .read .ensures) (in-one (at-run .run .ensures _ r)) (at-if1 .if1 .taken) refl
 
 returns-2 : tie.Need-returns-2
 unfolding shape
@@ -23,7 +24,7 @@ returns-2 c r =
     let at-pass = at-if2 .before .before .before .before in
     let at-if1 = at-pass .before in
     let at-read = at-if1 .before in
-    node-on (at-read .read .ensures) Savepoint (at-if2 .if2 .taken) refl (at-if1 .if1 .left) (at-pass .pass .ensures) (at-word-run .word-run .ensures _ _)
+    node-on (at-read .read .ensures) Savepoint (at-if2 .if2 .taken) refl (at-if1 .if1 .left) (at-pass .pass .ensures) (in-one (at-word-run .word-run .ensures _ _))
 
 returns-3 : tie.Need-returns-3
 unfolding shape
@@ -33,7 +34,7 @@ returns-3 c r =
     let at-pass = at-if3 .before .before .before .before .before .before in
     let at-if1 = at-pass .before in
     let at-read = at-if1 .before in
-    node-on (at-read .read .ensures) SelectStmt (at-if3 .if3 .taken) refl (at-if1 .if1 .left) (at-pass .pass .ensures) (at-select .select .ensures _)
+    node-on (at-read .read .ensures) SelectStmt (at-if3 .if3 .taken) refl (at-if1 .if1 .left) (at-pass .pass .ensures) (in-one (at-select .select .ensures _))
 
 returns-4 : tie.Need-returns-4
 unfolding shape
@@ -43,7 +44,7 @@ returns-4 c r =
     let at-pass = at-if4 .before .before .before .before .before .before .before .before in
     let at-if1 = at-pass .before in
     let at-read = at-if1 .before in
-    node-on (at-read .read .ensures) Update (at-if4 .if4 .taken) refl (at-if1 .if1 .left) (at-pass .pass .ensures) (at-update .update .ensures _)
+    node-on (at-read .read .ensures) Update (at-if4 .if4 .taken) refl (at-if1 .if1 .left) (at-pass .pass .ensures) (in-one (at-update .update .ensures _))
 
 returns-5 : tie.Need-returns-5
 unfolding shape
@@ -53,7 +54,7 @@ returns-5 c r =
     let at-pass = at-if5 .before .before .before .before .before .before .before .before .before .before in
     let at-if1 = at-pass .before in
     let at-read = at-if1 .before in
-    node-on (at-read .read .ensures) Vacuum (at-if5 .if5 .taken) refl (at-if1 .if1 .left) (at-pass .pass .ensures) (at-vacuum .vacuum .ensures _ _)
+    node-on (at-read .read .ensures) Vacuum (at-if5 .if5 .taken) refl (at-if1 .if1 .left) (at-pass .pass .ensures) (in-one (at-vacuum .vacuum .ensures _ _))
 
 returns-6 : tie.Need-returns-6
 unfolding shape
@@ -76,7 +77,7 @@ returns-7 c r =
     let at-pass = at-first-flag .before in
     let at-if1 = at-pass .before in
     let at-read = at-if1 .before in
-    node-on (at-read .read .ensures) CreateDomain (at-if7 .if7 .taken) refl (at-if1 .if1 .left) (at-pass .pass .ensures) (at-create-domain .create-domain .ensures _ (at-first-flag .first-flag .ensures _ refl) (at-second-flag .second-flag .ensures _ refl))
+    node-on (at-read .read .ensures) CreateDomain (at-if7 .if7 .taken) refl (at-if1 .if1 .left) (at-pass .pass .ensures) (in-one (at-create-domain .create-domain .ensures _ (at-first-flag .first-flag .ensures _ refl) (at-second-flag .second-flag .ensures _ refl)))
 
 returns-8 : tie.Need-returns-8
 unfolding shape
@@ -87,7 +88,7 @@ returns-8 c r =
     let at-pass = at-first-flag .before in
     let at-if1 = at-pass .before in
     let at-read = at-if1 .before in
-    node-on (at-read .read .ensures) DropType (at-if8 .if8 .taken) refl (at-if1 .if1 .left) (at-pass .pass .ensures) (at-drop-type .drop-type .ensures _ _ (at-first-flag .first-flag .ensures _ refl))
+    node-on (at-read .read .ensures) DropType (at-if8 .if8 .taken) refl (at-if1 .if1 .left) (at-pass .pass .ensures) (in-one (at-drop-type .drop-type .ensures _ _ (at-first-flag .first-flag .ensures _ refl)))
 
 returns-9 : tie.Need-returns-9
 unfolding shape
@@ -99,7 +100,7 @@ returns-9 c r =
     let at-pass = at-first-flag .before in
     let at-if1 = at-pass .before in
     let at-read = at-if1 .before in
-    node-on (at-read .read .ensures) CreateSequence (at-if9 .if9 .taken) refl (at-if1 .if1 .left) (at-pass .pass .ensures) (at-create-sequence .create-sequence .ensures _ _ (at-first-flag .first-flag .ensures _ refl) (at-second-flag .second-flag .ensures _ refl))
+    node-on (at-read .read .ensures) CreateSequence (at-if9 .if9 .taken) refl (at-if1 .if1 .left) (at-pass .pass .ensures) (in-one (at-create-sequence .create-sequence .ensures _ _ (at-first-flag .first-flag .ensures _ refl) (at-second-flag .second-flag .ensures _ refl)))
 
 returns-10 : tie.Need-returns-10
 unfolding shape
@@ -110,7 +111,7 @@ returns-10 c r =
     let at-pass = at-first-flag .before in
     let at-if1 = at-pass .before in
     let at-read = at-if1 .before in
-    node-on (at-read .read .ensures) DropSequence (at-if10 .if10 .taken) refl (at-if1 .if1 .left) (at-pass .pass .ensures) (at-drop-sequence .drop-sequence .ensures _ _ (at-first-flag .first-flag .ensures _ refl))
+    node-on (at-read .read .ensures) DropSequence (at-if10 .if10 .taken) refl (at-if1 .if1 .left) (at-pass .pass .ensures) (in-one (at-drop-sequence .drop-sequence .ensures _ _ (at-first-flag .first-flag .ensures _ refl)))
 
 returns-11 : tie.Need-returns-11
 unfolding shape
@@ -121,7 +122,7 @@ returns-11 c r =
     let at-pass = at-first-flag .before in
     let at-if1 = at-pass .before in
     let at-read = at-if1 .before in
-    node-on (at-read .read .ensures) DropDomain (at-if11 .if11 .taken) refl (at-if1 .if1 .left) (at-pass .pass .ensures) (at-drop-domain .drop-domain .ensures _ _ (at-first-flag .first-flag .ensures _ refl))
+    node-on (at-read .read .ensures) DropDomain (at-if11 .if11 .taken) refl (at-if1 .if1 .left) (at-pass .pass .ensures) (in-one (at-drop-domain .drop-domain .ensures _ _ (at-first-flag .first-flag .ensures _ refl)))
 
 returns-12 : tie.Need-returns-12
 returns-12 c r =
@@ -137,7 +138,7 @@ returns-12 c r =
     let at-if3 = at-if4 .before .before in
     let at-if2 = at-if3 .before .before in
     let at-read = at-if2 .before .before .before .before .before .before in
-    other (at-read .read .ensures) (at-run2 .run2 .ensures _ r) (rw (ne-eqb _ Savepoint (at-if2 .if2 .left), ne-eqb _ SelectStmt (at-if3 .if3 .left), ne-eqb _ Update (at-if4 .if4 .left), ne-eqb _ Vacuum (at-if5 .if5 .left), ne-eqb _ CreateType (at-if6 .if6 .left), ne-eqb _ CreateDomain (at-if7 .if7 .left), ne-eqb _ DropType (at-if8 .if8 .left), ne-eqb _ CreateSequence (at-if9 .if9 .left), ne-eqb _ DropSequence (at-if10 .if10 .left), ne-eqb _ DropDomain (at-if11 .if11 .left)))
+    other (at-read .read .ensures) (in-one (at-run2 .run2 .ensures _ r)) (rw (ne-eqb _ Savepoint (at-if2 .if2 .left), ne-eqb _ SelectStmt (at-if3 .if3 .left), ne-eqb _ Update (at-if4 .if4 .left), ne-eqb _ Vacuum (at-if5 .if5 .left), ne-eqb _ CreateType (at-if6 .if6 .left), ne-eqb _ CreateDomain (at-if7 .if7 .left), ne-eqb _ DropType (at-if8 .if8 .left), ne-eqb _ CreateSequence (at-if9 .if9 .left), ne-eqb _ DropSequence (at-if10 .if10 .left), ne-eqb _ DropDomain (at-if11 .if11 .left)))
 
 pub stmt-to-drop-domain-spec : {M : Type 1} → statement M
 stmt-to-drop-domain-spec =

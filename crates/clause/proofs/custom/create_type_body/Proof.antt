@@ -4,6 +4,7 @@ use mathlib.Core.Path.{refl}
 use borrow.Author.Tests.{ne-eqb}
 use Rattle.grammar.specs.Grammar.{shape}
 use Rattle.grammar.specs.Kind.{Struct, Union, CustomType}
+use Rattle.pen.specs.Laws.{in-one}
 use Rattle.pen.specs.Places.{shallow, other, node-on}
 use Rattle.clause.proofs.custom.create_type_body.Statement.{statement}
 use Rattle.clause.proofs.custom.create_type_body.Tie as tie
@@ -13,7 +14,7 @@ returns c r =
     let at-run = c .before .before in
     let at-if1 = at-run .before .before in
     let at-read = at-if1 .before in
-    shallow (at-read .read .ensures) (at-run .run .ensures _ r) (at-if1 .if1 .taken) refl
+    shallow (at-read .read .ensures) (in-one (at-run .run .ensures _ r)) (at-if1 .if1 .taken) refl
 
 returns-2 : tie.Need-returns-2
 unfolding shape
@@ -23,7 +24,7 @@ returns-2 c r =
     let at-pass = at-if2 .before .before in
     let at-if1 = at-pass .before in
     let at-read = at-if1 .before in
-    node-on (at-read .read .ensures) Struct (at-if2 .if2 .taken) refl (at-if1 .if1 .left) (at-pass .pass .ensures) (at-type-fields .type-fields .ensures _ refl _)
+    node-on (at-read .read .ensures) Struct (at-if2 .if2 .taken) refl (at-if1 .if1 .left) (at-pass .pass .ensures) (in-one (at-type-fields .type-fields .ensures _ refl _))
 
 returns-3 : tie.Need-returns-3
 unfolding shape
@@ -33,7 +34,7 @@ returns-3 c r =
     let at-pass = at-if3 .before .before .before .before in
     let at-if1 = at-pass .before in
     let at-read = at-if1 .before in
-    node-on (at-read .read .ensures) Union (at-if3 .if3 .taken) refl (at-if1 .if1 .left) (at-pass .pass .ensures) (at-type-fields2 .type-fields2 .ensures _ refl _)
+    node-on (at-read .read .ensures) Union (at-if3 .if3 .taken) refl (at-if1 .if1 .left) (at-pass .pass .ensures) (in-one (at-type-fields2 .type-fields2 .ensures _ refl _))
 
 returns-4 : tie.Need-returns-4
 unfolding shape
@@ -52,7 +53,7 @@ returns-5 c r =
     let at-if3 = at-if4 .before .before in
     let at-if2 = at-if3 .before .before in
     let at-read = at-if2 .before .before .before .before in
-    other (at-read .read .ensures) (at-run2 .run2 .ensures _ r) (rw (ne-eqb _ Struct (at-if2 .if2 .left), ne-eqb _ Union (at-if3 .if3 .left), ne-eqb _ CustomType (at-if4 .if4 .left)))
+    other (at-read .read .ensures) (in-one (at-run2 .run2 .ensures _ r)) (rw (ne-eqb _ Struct (at-if2 .if2 .left), ne-eqb _ Union (at-if3 .if3 .left), ne-eqb _ CustomType (at-if4 .if4 .left)))
 
 pub create-type-body-spec : {M : Type 1} → statement M
 create-type-body-spec =

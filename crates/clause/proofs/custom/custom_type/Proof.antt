@@ -1,6 +1,6 @@
 -- `custom::custom_type` writes its entry, a step a call.
 use borrow.Author.Needs.{needs}
-use Rattle.pen.specs.Laws.{_▹_, a-said, same}
+use Rattle.pen.specs.Laws.{_▹_, a-said, same, in-one}
 use Rattle.parts.specs.Laws.{said-clause}
 use Rattle.grammar.specs.Grammar.{shape}
 use mathlib.Core.Path.{refl}
@@ -17,11 +17,11 @@ returns c r =
     let at-name = at-said-clause .before .before .before .before .before in
     let at-said = at-name .before .before .before .before in
     let at-params = at-said .before .before .before .before .before in
-    at-params .params .ensures r
+    in-one (at-params .params .ensures r)
     ▹ a-said _ refl (at-said .said .ensures)
-    ▹ at-name .name .ensures _ r
-    ▹ said-clause _ refl (at-said-clause .said-clause .ensures)
-    ▹ said-clause _ refl (at-said-clause2 .said-clause2 .ensures)
+    ▹ in-one (at-name .name .ensures _ r)
+    ▹ in-one (said-clause _ refl (at-said-clause .said-clause .ensures))
+    ▹ in-one (said-clause _ refl (at-said-clause2 .said-clause2 .ensures))
     ▹ at-default-first .default-first .ensures r
 
 pub custom-type-spec : {M : Type 1} → statement M

@@ -6,12 +6,14 @@ use native.Mathlib.Omega.{arith}
 use mathlib.Core.Path.{_≡_, refl, _∙_}
 use mathlib.Core.List.{[]}
 use Prim.Native.Nat.{_+_, _*_, _≤_}
+use Rattle.mode.specs.declared.Edition.{Edition}
+use Rattle.mode.specs.declared.Edition.the-variants.{Crate}
 use Rattle.record.specs.Laws.{nothing as blank}
-use Rattle.grammar.specs.Kind.{ColumnDefinition, NamedTableConstraint, TypeField, TypeParam, OperatorClause, DomainConstraint, Pair, CompoundSelect, OneSelect, Values, JoinedTable, Table, TableCall, TableSelect, Sub, CommonTableExpr}
+use Rattle.grammar.specs.Kind.{ColumnDefinition, NamedTableConstraint, TypeField, TypeParam, DomainConstraint, Pair, CompoundSelect, OneSelect, Values, JoinedTable, Table, TableCall, TableSelect, Sub, CommonTableExpr}
 use Rattle.grammar.specs.Grammar as grammar
 use Rattle.grammar.specs.Grammar.{shape}
 use Rattle.tokens.specs.Tokens.{rows, placed, comma, means, node}
-use Rattle.pen.specs.Pen.{source, put}
+use Rattle.pen.specs.Pen.{sourceOf, source, put}
 use Rattle.pen.specs.Laws.{_▹_, same, puts-length}
 use Rattle.pen.specs.Rows.{opt, row-first, row-done}
 use Rattle.pen.specs.Places.{shut, opened, left-some, shallow, other, node-on, optional, given-none, given-some}
@@ -82,7 +84,6 @@ use Rattle.clause.proofs.select.not_materialized.Reads as not-materiali
 use Rattle.clause.proofs.select.table_call.Reads as table-call-reads
 use Rattle.clause.proofs.select.table_name.Reads as table-name-reads
 use Rattle.clause.proofs.select.values.Reads as values-reads
-use Rattle.clause.proofs.types.operator_clause.Reads as operator-clause-reads
 use Rattle.clause.proofs.types.type_field.Reads as type-field-reads
 use Rattle.clause.proofs.types.type_param.Reads as type-param-reads
 use Rattle.parts.proofs.columns.Reads as columns-reads
@@ -414,7 +415,7 @@ cte-body-met t =
     at-materialized .materialized .ensures _ _ r h ▹ at-not-materialized .not-materialized .ensures _ _ r h ▹ at-word .word .ensures _ _ r ▹ at-select .select .ensures r ▹ at-word2 .word2 .ensures _ _ r)
 
 abbrev element-calls : ℕ → element-lts.Claims
-element-calls t = (column-definition-reads.Asked, column-definition-reads.Learnt, named-table-constraint-reads.Asked, named-table-constraint-reads.Learnt, type-field-reads.Asked, type-field-reads.Learnt, type-param-reads.Asked, type-param-reads.Learnt, operator-clause-reads.Asked, operator-clause-reads.Learnt, domain-constraint-reads.Asked, domain-constraint-reads.Learnt, pair-reads.Asked, pair-reads.Learnt, cte-below t, cte.Post, compound-below t, compound.Post, joined-below t, joined.Post, run-reads.Asked, run-reads.Learnt)
+element-calls t = (column-definition-reads.Asked, column-definition-reads.Learnt, named-table-constraint-reads.Asked, named-table-constraint-reads.Learnt, type-field-reads.Asked, type-field-reads.Learnt, type-param-reads.Asked, type-param-reads.Learnt, domain-constraint-reads.Asked, domain-constraint-reads.Learnt, pair-reads.Asked, pair-reads.Learnt, cte-below t, cte.Post, compound-below t, compound.Post, joined-below t, joined.Post, run-reads.Asked, run-reads.Learnt)
 
 element-met : {M : Type 1} (t : ℕ) → element-lts.Closed (element-calls t) (element-at t) element.Post M
 unfolding held
@@ -435,36 +436,32 @@ element-met t =
     (λ c κs. search needs)  -- type-param-requires
     (λ c. search needs)  -- same-length-4
     (λ c r. rw (c .before .before .before .before .if4 .taken) (c .before .before .type-param .ensures r))  -- returns-4
-    (λ c κs. search needs)  -- operator-clause-requires
-    (λ c. search needs)  -- same-length-5
-    (λ c r. rw (c .before .before .before .before .if5 .taken) (c .before .before .operator-clause .ensures r))  -- returns-5
     (λ c κs. search needs)  -- domain-constraint-requires
     (λ c. search needs)  -- same-length-6
-    (λ c r. rw (c .before .before .before .before .if6 .taken) (c .before .before .domain-constraint .ensures r))  -- returns-6
+    (λ c r. rw (c .before .before .before .before .if5 .taken) (c .before .before .domain-constraint .ensures r))  -- returns-5
     (λ c κs. search needs)  -- pair-requires
     (λ c. search needs)  -- same-length-7
-    (λ c r. rw (c .before .before .before .before .if7 .taken) (c .before .before .pair .ensures r))  -- returns-7
+    (λ c r. rw (c .before .before .before .before .if6 .taken) (c .before .before .pair .ensures r))  -- returns-6
     (λ c κs.  -- cte-requires
-    let at-pre = c .before .before .before .before .before .before .before .before .before .before .before .before .before in
+    let at-pre = c .before .before .before .before .before .before .before .before .before .before .before .before in
     (omega (arith, at-pre .pre .0), tt))
     (λ c. search needs)  -- same-length-8
-    (λ c r. rw (c .before .before .before .before .if8 .taken) (c .before .before .cte .ensures r))  -- returns-8
+    (λ c r. rw (c .before .before .before .before .if7 .taken) (c .before .before .cte .ensures r))  -- returns-7
     (λ c κs.  -- compound-requires
-    let at-pre = c .before .before .before .before .before .before .before .before .before .before .before .before .before .before in
+    let at-pre = c .before .before .before .before .before .before .before .before .before .before .before .before .before in
     (omega (arith, at-pre .pre .0), tt))
     (λ c. search needs)  -- same-length-9
-    (λ c r. rw (c .before .before .before .before .if9 .taken) (c .before .before .compound .ensures r))  -- returns-9
+    (λ c r. rw (c .before .before .before .before .if8 .taken) (c .before .before .compound .ensures r))  -- returns-8
     (λ c κs.  -- joined-requires
-    let at-pre = c .before .before .before .before .before .before .before .before .before .before .before .before .before .before .before in
+    let at-pre = c .before .before .before .before .before .before .before .before .before .before .before .before .before .before in
     (omega (arith, at-pre .pre .0), tt))
     (λ c. search needs)  -- same-length-10
-    (λ c r. rw (c .before .before .before .before .if10 .taken) (c .before .before .joined .ensures r))  -- returns-10
+    (λ c r. rw (c .before .before .before .before .if9 .taken) (c .before .before .joined .ensures r))  -- returns-9
     (λ c κs. search needs)  -- run-requires
     (λ c. search needs)  -- same-length-11
     (λ c r.  -- returns-11
     let at-run = c .before .before in
-    let at-if10 = at-run .before .before in
-    let at-if9 = at-if10 .before in
+    let at-if9 = at-run .before .before in
     let at-if8 = at-if9 .before in
     let at-if7 = at-if8 .before in
     let at-if6 = at-if7 .before in
@@ -473,13 +470,13 @@ element-met t =
     let at-if3 = at-if4 .before in
     let at-if2 = at-if3 .before in
     let at-if1 = at-if2 .before in
-    rw (ne-eqb _ ColumnDefinition (at-if1 .if1 .left), ne-eqb _ NamedTableConstraint (at-if2 .if2 .left), ne-eqb _ TypeField (at-if3 .if3 .left), ne-eqb _ TypeParam (at-if4 .if4 .left), ne-eqb _ OperatorClause (at-if5 .if5 .left), ne-eqb _ DomainConstraint (at-if6 .if6 .left), ne-eqb _ Pair (at-if7 .if7 .left), ne-eqb _ CommonTableExpr (at-if8 .if8 .left), ne-eqb _ CompoundSelect (at-if9 .if9 .left), ne-eqb _ JoinedTable (at-if10 .if10 .left)) (at-run .run .ensures _ r))
+    rw (ne-eqb _ ColumnDefinition (at-if1 .if1 .left), ne-eqb _ NamedTableConstraint (at-if2 .if2 .left), ne-eqb _ TypeField (at-if3 .if3 .left), ne-eqb _ TypeParam (at-if4 .if4 .left), ne-eqb _ DomainConstraint (at-if5 .if5 .left), ne-eqb _ Pair (at-if6 .if6 .left), ne-eqb _ CommonTableExpr (at-if7 .if7 .left), ne-eqb _ CompoundSelect (at-if8 .if8 .left), ne-eqb _ JoinedTable (at-if9 .if9 .left)) (at-run .run .ensures _ r))
 
 -- what is left of the row from here is what was to be written at the start
 abbrev elements-Inv-loop : elements-lts.InvT-loop
 elements-Inv-loop out₀ pool tree text left kind n sep q₀ rest₀ lead₀ out q rest lead =
-    put pool (rows (placed (source tree text) (node (source tree text) left) (grammar.node (held kind))) (opt lead comma) (opt sep comma) rest (q .next)) (q, out)
-    ≡ put pool (rows (placed (source tree text) (node (source tree text) left) (grammar.node (held kind))) [] (opt sep comma) n (q₀ .next)) (q₀, out₀)
+    (v : Edition) → put pool (rows (placed (sourceOf v (source tree text)) (node (sourceOf v (source tree text)) left) (grammar.node (held kind))) (opt lead comma) (opt sep comma) rest (q .next)) (q, out)
+    ≡ put pool (rows (placed (sourceOf v (source tree text)) (node (sourceOf v (source tree text)) left) (grammar.node (held kind))) [] (opt sep comma) n (q₀ .next)) (q₀, out₀)
 
 abbrev elements-μ-loop : elements-lts.MeasureT-loop
 elements-μ-loop out₀ pool tree text left kind n sep q₀ rest₀ lead₀ out q rest lead = rest
@@ -491,21 +488,21 @@ elements-met : {M : Type 1} (t : ℕ) → elements-lts.Closed (elements-calls t)
 unfolding held means
 elements-met t =
     elements-lts.spec (elements-calls t) (elements-at t) elements.Post elements-Inv-loop elements-μ-loop
-    (λ c. refl)  -- loop-holds
+    (λ c v. refl)  -- loop-holds
     (λ c κs. search needs)  -- comma-if-requires
     (λ c κs.  -- element-requires
     let at-pre = c .before .before .before .before .before .before .before .before .before .before .before in
     (omega (arith, at-pre .pre .0), tt))
     (λ c. search needs)  -- sub-rest
     (λ c. search needs)  -- loop-less
-    (λ c.  -- loop-again
+    (λ c v.  -- loop-again
     let at-element = c .before .before in
     let at-comma-if = at-element .before .before .before .before in
     let at-loop-test = at-comma-if .before .before in
     let at-loop = at-loop-test .before in
-    row-first _ _ _ _ (at-loop-test .loop-test .taken) (at-comma-if .comma-if .ensures) (at-element .element .ensures blank .puts) ∙ at-loop .loop .inv)
-    (λ c. puts-length (row-done _ _ _ _ (c .loop-test .left) (c .before .loop .inv)))  -- same-length
-    (λ c. row-done _ _ _ _ (c .loop-test .left) (c .before .loop .inv))  -- returns
+    row-first _ _ _ _ (at-loop-test .loop-test .taken) (at-comma-if .comma-if .ensures) (at-element .element .ensures blank .puts v) ∙ at-loop .loop .inv v)
+    (λ c. puts-length (row-done _ _ _ _ (c .loop-test .left) (c .before .loop .inv Crate)))  -- same-length
+    (λ c v. row-done _ _ _ _ (c .loop-test .left) (c .before .loop .inv v))  -- returns
 
 abbrev from-clause-calls : ℕ → from-clause-lts.Claims
 from-clause-calls t = (read-reads.Asked, read-reads.Learnt, run-reads.Asked, run-reads.Learnt, pass-reads.Asked, pass-reads.Learnt, table-below t, table.Post, list-below t, list.Post)

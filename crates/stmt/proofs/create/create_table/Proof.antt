@@ -1,6 +1,6 @@
 -- `create::create_table` writes its entry, a step a call.
 use borrow.Author.Needs.{needs}
-use Rattle.pen.specs.Laws.{_▹_}
+use Rattle.pen.specs.Laws.{_▹_, in-one}
 use Rattle.grammar.specs.Grammar.{shape}
 use Rattle.stmt.specs.Laws.{same-two}
 use Rattle.stmt.proofs.create.create_table.Statement.{statement}
@@ -19,7 +19,7 @@ returns c r h g =
     ▹ at-word-if .word-if .ensures _ _ r _ h
     ▹ at-word2 .word2 .ensures _ _ r
     ▹ at-if-not-exists .if-not-exists .ensures _ _ r _ g
-    ▹ at-run .run .ensures _ r
+    ▹ in-one (at-run .run .ensures _ r)
     ▹ at-create-table-body .create-table-body .ensures r
 
 pub create-table-spec : {M : Type 1} → statement M

@@ -1,6 +1,6 @@
 -- `create::create_type` writes its entry, a step a call.
 use borrow.Author.Needs.{needs}
-use Rattle.pen.specs.Laws.{_▹_}
+use Rattle.pen.specs.Laws.{_▹_, in-one}
 use Rattle.grammar.specs.Grammar.{shape}
 use Rattle.stmt.specs.Laws.{same-one}
 use Rattle.stmt.proofs.create.create_type.Statement.{statement}
@@ -17,7 +17,7 @@ returns c r h =
     at-word .word .ensures _ _ r
     ▹ at-word2 .word2 .ensures _ _ r
     ▹ at-if-not-exists .if-not-exists .ensures _ _ r _ h
-    ▹ at-name .name .ensures _ r
+    ▹ in-one (at-name .name .ensures _ r)
     ▹ at-create-type-body .create-type-body .ensures r
 
 pub create-type-spec : {M : Type 1} → statement M
