@@ -1,7 +1,7 @@
 #!/usr/bin/env bash
 # Builds the oracle, holds the stored files to it, and compares the library and the grammar's entries with the crate,
-# the check with the model, what it says of CHECK sources with two readings of them, and what append writes with the
-# reading rule.
+# the check with the model, what it says of CHECK sources and of without-rowid texts with two readings of each, what the
+# SQLite edition writes with SQLite itself where `sqlite3` is on PATH, and what append writes with the reading rule.
 # `run.sh --store` writes the stored files instead, and ends.
 # `run.sh --bench` tells the speed, the stack and the size of the library beside the crate's instead, and ends.
 set -euo pipefail
@@ -28,11 +28,13 @@ TREES_RENDERED=${TREES_RENDERED:-1000000}
 NUMBERS=${NUMBERS:-10000000}
 ENCODED=${ENCODED:-5000000}
 SOURCES=${SOURCES:-2000000}
+EDITIONS=${EDITIONS:-1000000}
+TABLES=${TABLES:-10000}
 ENTRIES=${ENTRIES:-1000000}
 STREAMS=${STREAMS:-1000000}
 FUZZED=${FUZZED:-10000000}
 ENTRY_FAULTS=20000
-LISTED=1182
+LISTED=1293
 LISTED_SEED=1
 
 oracle=$(cd "$(dirname "${BASH_SOURCE[0]}")" && pwd)
@@ -159,6 +161,16 @@ echo "texts that are whole, cut off or never UTF-8, against Rust's own check:"
 
 echo "CHECK sources that are left open, every short one and random ones, against two readings:"
 "$programs/compare" sources "$SOURCES" "$SEED"
+
+echo "the two editions, every spelling of what they differ in and random trees, against two readings:"
+"$programs/compare" editions "$EDITIONS" "$SEED"
+
+if command -v sqlite3 > /dev/null; then
+    echo "what the SQLite edition writes, handed to SQLite itself:"
+    "$programs/compare" sqlite "$TABLES" "$SEED"
+else
+    echo "no sqlite3 on PATH: the SQLite edition was not handed to SQLite"
+fi
 
 echo "the library's calls on whatever comes, between known bytes and beside closed pages:"
 "$programs/compare" fuzz "$FUZZED" "$SEED"

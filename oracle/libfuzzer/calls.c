@@ -20,7 +20,8 @@ enum {
     NUMBERS = 13,       /* one more than the last number of an answer */
     LONGEST = 1 << 20,  /* longer texts are measured only */
     NO_ROOM = 8,
-    OPEN_SOURCE = 9
+    OPEN_SOURCE = 9,
+    OTHER_ROWID = 10
 };
 
 __attribute__((used, section("__libfuzzer_extra_counters"))) static uint8_t counters[2][NUMBERS][PLACES];
@@ -84,11 +85,15 @@ static void rendered(const uint32_t *options, const uint8_t *tree, size_t tree_l
     free(out);
 }
 
-/* The two answers are one, or the switch is on and refuses what would be admitted or refused by the records. */
+/* The two answers are one; or an option refuses what would be admitted or refused by the records; or the SQLite edition
+ * writes a longer text. */
 static void switched(uint32_t options, uint64_t without, uint64_t with) {
     int strict = (options & KINYANDOMA_STRICT) != 0;
+    int sqlite = (options & KINYANDOMA_SQLITE) != 0;
     int by_records = number(without) == 0 || (number(without) >= 3 && number(without) <= 7);
-    hold(without == with || (strict && by_records && number(with) == OPEN_SOURCE));
+    int refused = (strict && number(with) == OPEN_SOURCE) || (sqlite && number(with) == OTHER_ROWID);
+    int longer = sqlite && number(without) == 0 && number(with) == 0 && place(with) > place(without);
+    hold(without == with || (by_records && refused) || longer);
 }
 
 static void tree_calls(const uint8_t *data, size_t size, size_t split, size_t room, uint32_t options) {
@@ -101,10 +106,11 @@ static void tree_calls(const uint8_t *data, size_t size, size_t split, size_t ro
     switched(options, without, with);
     tell(0, with);
     size_t length = number(without) == 0 ? place(without) : 0;
-    if (length <= LONGEST) {
+    size_t length_with = number(with) == 0 ? place(with) : 0;
+    if (length <= LONGEST && length_with <= LONGEST) {
         rendered(NULL, tree, tree_len, text, text_len, without, length);
         rendered(NULL, tree, tree_len, text, text_len, without, room);
-        rendered(&options, tree, tree_len, text, text_len, with, length);
+        rendered(&options, tree, tree_len, text, text_len, with, length_with);
         rendered(&options, tree, tree_len, text, text_len, with, room);
         hold(memcmp(tree, data, tree_len) == 0 && memcmp(text, data + tree_len, text_len) == 0);
     }

@@ -9,18 +9,18 @@ made=$(mktemp -d)
 trap 'rm -r "$made"' EXIT
 mkdir -p "$made/corpus" oracle/target/made
 
-# Each stored tree of up to 2,000 bytes, as the input that lends it with the switch on; and appends of an ID to a fresh
+# Each stored tree of up to 2,000 bytes, as the input that lends it with the switch on, in its edition; and appends of an ID to a fresh
 # record and to one that has written two lines.
 python3 - crates/replay_text/stdin "$made/corpus" << 'EOF'
 import struct, sys
 data, at, name = open(sys.argv[1], "rb").read(), 0, 0
 while at < len(data):
-    tree, text = struct.unpack_from("<II", data, at)
-    lent = data[at + 8:at + 8 + tree + text]
-    at += 8 + tree + text
+    options, tree, text = struct.unpack_from("<III", data, at)
+    lent = data[at + 12:at + 12 + tree + text]
+    at += 12 + tree + text
     name += 1
     if len(lent) <= 2000:
-        head = struct.pack("<BHBBB", 0, tree, 40, 0, 1)
+        head = struct.pack("<BHBBB", 0, tree, 40, 0, 1 | options & 2)
         open(f"{sys.argv[2]}/{name}", "wb").write(head + lent)
 for numbers in [(1, 0, 0, 0), (0, 9, 1, 3)]:
     for value in [b"a\nbc", b"x" * 40]:

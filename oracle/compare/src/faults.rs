@@ -1,7 +1,7 @@
 //! Plants each fault in the stand-ins and sees that the comparison finds it.
 
 use crate::trees::stand_in::{exchange, faulty_entries};
-use crate::{compare_all, encoding, fuzz, numbers, sources, trees, Extent};
+use crate::{compare_all, editions, encoding, fuzz, numbers, sources, trees, Extent};
 use model::record::Record;
 use model::samples::Judged;
 use model::texts;
@@ -105,6 +105,46 @@ faults! {
         SwitchInRenderOnly
         OtherBitIsSwitch
         OtherBitsTurnItOff;
+    EDITIONS:
+        CommaWithOne
+        NoComma
+        CommaInCrate
+        QuoteLeftSingle
+        FirstQuoteOnly
+        PairLeftAsItIs
+        EachQuoteDoubled
+        SecondInCapitals
+        LowercaseRefused
+        MixedCaseRefused
+        DotlessTaken
+        TwoSpacesRefused
+        AsciiWhiteOnly
+        OnePartTaken
+        ThreePartsTaken
+        EmptyTaken
+        ZeroPartTaken
+        AnyFirstTaken
+        AnySecondTaken
+        BeginningTaken
+        NoneRefused
+        SecondLookedAt
+        LastRowidOnly
+        PlaceOfBody
+        TenInCrate
+        TenNever
+        TenBeforePart
+        TenBeforeNine
+        TenBeforeAll
+        TenAfterDepth
+        TenAfterCount
+        TenAfterNine
+        TenAfterAll
+        EditionNeverOn
+        EditionInRenderOnly
+        SwitchIsEdition
+        EditionIsSwitch
+        OtherBitIsEdition
+        OtherBitsTurnEditionOff;
     NUMBERS:
         OneSubtractionTooFew
         PowerLeftOut
@@ -124,6 +164,8 @@ const DECIMALS: u64 = 1;
 const BROKEN: u64 = 20_000;
 /// Random trees, for each fault of the switch that refuses open CHECK sources.
 const STRICT: u64 = 20_000;
+/// Random trees, for each fault of the SQLite edition.
+const IN_EDITIONS: u64 = 20_000;
 /// Calls of the fuzz run, for each fault.
 const FUZZED: u64 = 1_000_000;
 
@@ -144,9 +186,11 @@ pub fn try_all(whole: bool) -> bool {
     let numbers = all_found(NUMBERS, whole, &difference_in_numbers);
     let encoding = all_found(ENCODING, whole, &difference_in_encoding);
     let sources = all_found(SOURCES, whole, &difference_in_sources);
-    let by_fuzz = [STREAM, APPEND, POSITION, TREES, ENCODING, SOURCES].concat();
-    let fuzzed = all_found(&by_fuzz, whole, &difference_in_fuzz);
-    append && trees && entries && numbers && encoding && sources && fuzzed
+    let by_editions = [EDITIONS, &[Fault::OperatorQuotesDoubled]].concat();
+    let editions = all_found(&by_editions, whole, &difference_in_editions);
+    let by_fuzz = [STREAM, APPEND, POSITION, TREES, ENCODING, SOURCES, EDITIONS];
+    let fuzzed = all_found(&by_fuzz.concat(), whole, &difference_in_fuzz);
+    append && trees && entries && numbers && encoding && sources && editions && fuzzed
 }
 
 /// The difference that is found with a fault, if any is.
@@ -203,6 +247,11 @@ fn difference_in_encoding(fault: usize) -> Option<String> {
 fn difference_in_sources(fault: usize) -> Option<String> {
     PLANTED.store(fault, Ordering::Relaxed);
     sources::compare_few(STRICT, SEED).err()
+}
+
+fn difference_in_editions(fault: usize) -> Option<String> {
+    PLANTED.store(fault, Ordering::Relaxed);
+    editions::compare_few(IN_EDITIONS, SEED).err()
 }
 
 fn difference_in_fuzz(fault: usize) -> Option<String> {

@@ -1,6 +1,7 @@
 //! Lent bytes with known bytes around them, or beside a page that nobody may touch.
 
 use crate::pages::Pages;
+use tokens::random::Random;
 
 const GUARD: usize = 48;
 /// Starts are moved by less than this.
@@ -19,6 +20,17 @@ pub enum Fence {
 
 /// The fences of the three parts that a call is lent, at most.
 pub type Fences = [Fence; 3];
+
+/// How tree, text and output are lent: half of the trees and texts end where nobody may read on.
+pub fn fences(random: &mut Random) -> Fences {
+    let known = |random: &mut Random| Fence::Bytes(random.below(SHIFTS));
+    let fence = |random: &mut Random| match random.below(4) {
+        0 => known(random),
+        1 => Fence::PageBefore,
+        _ => Fence::PageAfter,
+    };
+    [fence(random), fence(random), known(random)]
+}
 
 pub struct Guarded {
     memory: Memory,

@@ -2,6 +2,8 @@
 
 mod call;
 mod crash;
+mod drawn;
+mod editions;
 mod encoding;
 #[cfg(feature = "selftest")]
 mod faults;
@@ -15,6 +17,7 @@ mod refusals;
 mod report;
 mod rules;
 mod sources;
+mod sqlite;
 #[cfg(feature = "selftest")]
 mod stand_in;
 mod streams;
@@ -30,6 +33,8 @@ const USAGE: &str = "usage: compare [TOKENS [REFUSED-CALLS [SEED]]]
        compare numbers COUNT SEED
        compare encoding COUNT SEED
        compare sources COUNT SEED
+       compare editions COUNT SEED
+       compare sqlite COUNT SEED
        compare reading COUNT SEED
        compare fuzz CALLS SEED";
 const DEFAULT_CALLS: u64 = 1_000_000;
@@ -51,6 +56,8 @@ fn main() {
         Some("numbers") => compare_random(&words[1..], &numbers::compare),
         Some("encoding") => compare_random(&words[1..], &encoding::compare),
         Some("sources") => compare_random(&words[1..], &sources::compare),
+        Some("editions") => compare_random(&words[1..], &editions::compare),
+        Some("sqlite") => compare_random(&words[1..], &sqlite::compare),
         Some("reading") => compare_random(&words[1..], &readable::compare),
         Some("fuzz") => compare_random(&words[1..], &fuzz::compare),
         _ => {

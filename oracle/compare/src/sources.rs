@@ -1,20 +1,20 @@
 //! CHECK sources that are left open (request vii): every short one, and random ones in random trees with faults, with
 //! any options. Two readings that were written apart must agree on each of them, and the library with both.
 
-pub mod drawn;
 mod second;
 
 use crate::crash;
+use crate::drawn::{drawn, SOURCES};
 use crate::fuzz::Judge;
-use crate::guarded::{Fence, SHIFTS};
+use crate::guarded::fences;
 use crate::hex::hex;
 use crate::report::{Numbers, ANSWERS};
 use crate::trees::{self, answers, told};
-use model::check::check;
+use model::check::check_with;
 use model::damage::Case;
-use model::encode::{encode, Encode};
-use model::options::{self, STRICT};
-use model::samples::Judged;
+use model::encode::Encode;
+use model::options::{self, Edition, SQLITE, STRICT};
+use model::samples::{of_in, Judged};
 use std::collections::BTreeMap;
 use std::fmt;
 use tokens::random::Random;
@@ -64,7 +64,7 @@ fn compare_up_to(longest: usize, count: u64, seed: u64) -> Result<Counts, String
     let mut counts = Counts::default();
     short(longest, &mut random, &mut counts)?;
     for _ in 0..count {
-        let (part, case) = drawn::drawn(&mut random);
+        let (part, case) = drawn(&SOURCES, &mut random);
         let judged = judge.judged(case)?;
         hold(part, &judged, &mut random, &mut counts)?;
     }
@@ -92,20 +92,17 @@ fn numbered(number: usize, length: usize) -> String {
     (0..length).rev().map(letter).collect()
 }
 
-/// With the switch off and on, each with bits that mean nothing, and what the crate writes if it is admitted.
+/// With the switch off and on, each in either edition and with bits that mean nothing.
 fn in_a_check(
     part: &'static str,
     value: &dyn Encode,
     random: &mut Random,
     counts: &mut Counts,
 ) -> Checked {
-    let admitted = Judged {
-        case: Case::from(encode(value)),
-        expected: Ok(value.text()),
-    };
     for switch in [0, STRICT] {
-        let options = switch | options::meaningless(random);
-        hold(part, &admitted.asked(options), random, counts)?;
+        let options = switch | random.pick(&[0, SQLITE]) | options::meaningless(random);
+        let judged = of_in(Edition::of(options), value).judged_with(options);
+        hold(part, &judged, random, counts)?;
     }
     Ok(())
 }
@@ -152,7 +149,7 @@ fn hold(part: &'static str, judged: &Judged, random: &mut Random, counts: &mut C
     crash::at(counts.trees.calls());
     let case = &judged.case;
     let strict = case.options & STRICT != 0;
-    let without = check(&case.tree, &case.text);
+    let without = check_with(case.options & !STRICT, &case.tree, &case.text);
     let expected = match strict {
         true => second::with_switch(case, without),
         false => without,
@@ -161,7 +158,7 @@ fn hold(part: &'static str, judged: &Judged, random: &mut Random, counts: &mut C
     if modelled != expected {
         return Err(two_readings(part, case, modelled, expected));
     }
-    let fences = [fence(random), fence(random), known(random)];
+    let fences = fences(random);
     let held = trees::hold_both(part, judged, fences, random, &mut counts.trees);
     held.map_err(|difference| difference.to_string())?;
     counts.count(part, case, without, expected);
@@ -175,19 +172,6 @@ fn two_readings(part: &str, case: &Case, model: (u32, u32), second: (u32, u32)) 
         hex(&case.tree),
         hex(&case.text)
     )
-}
-
-fn known(random: &mut Random) -> Fence {
-    Fence::Bytes(random.below(SHIFTS))
-}
-
-/// Half of the trees and texts end where nobody may read on.
-fn fence(random: &mut Random) -> Fence {
-    match random.below(4) {
-        0 => known(random),
-        1 => Fence::PageBefore,
-        _ => Fence::PageAfter,
-    }
 }
 
 impl Counts {

@@ -1,16 +1,18 @@
-//! Compares measure and render, with options and without, with the crate's texts and the model's refusals.
+//! Compares measure and render, with options and without, with the crate's texts, those of the SQLite edition and the model's
+//! refusals.
 
 mod call;
 mod report;
 #[cfg(feature = "selftest")]
 pub mod stand_in;
 
+use crate::fuzz::Judge;
 use crate::guarded::Fences;
 pub use call::by_bytes;
 use call::{Asked, Call, Lent};
 use model::damage::{damage, Case};
-use model::options::{self, MEANT, STRICT};
-use model::samples::{sample, Judged};
+use model::options::{self, Edition, MEANT, SETTINGS};
+use model::samples::{sample_in, Judged};
 use model::texts;
 pub use report::{answers, told, Counts, Difference};
 use tokens::random::Random;
@@ -37,12 +39,14 @@ pub fn compare_with<'a>(
 ) -> Result<Counts, Box<Difference>> {
     let mut random = Random::new(seed);
     let mut counts = Counts::default();
+    let judge = Judge::new().expect("entries that can be read");
     for judged in listed {
-        hold_listed(judged, &mut random, &mut counts)?;
+        hold_listed(&judge, judged, &mut random, &mut counts)?;
     }
     for _ in 0..count {
         let options = options::any(&mut random);
-        let judged = sample(&mut random).judged_with(options);
+        let sample = sample_in(Edition::of(options), &mut random);
+        let judged = sample.judged_with(options);
         let fences = by_bytes(random.word() as usize);
         hold("a random value", &judged, fences, &mut random, &mut counts)?;
         if random.one_in(DAMAGED) {
@@ -52,11 +56,25 @@ pub fn compare_with<'a>(
     Ok(counts)
 }
 
-/// With the switch off, and with it on; each with bits that mean nothing.
-fn hold_listed(judged: &Judged, random: &mut Random, counts: &mut Counts) -> Checked {
-    for switch in [0, STRICT] {
-        let options = switch | options::meaningless(random);
-        let judged = judged.asked(options);
+/// In each edition, with the switch off, and with it on; each with bits that mean nothing. Where the
+/// list has no text, that of the entries is due.
+fn hold_listed(
+    judge: &Judge,
+    judged: &Judged,
+    random: &mut Random,
+    counts: &mut Counts,
+) -> Checked {
+    let edition = Edition::of(judged.case.options);
+    for setting in SETTINGS {
+        let options = setting | options::meaningless(random);
+        let listed = judged.expected.is_ok() && Edition::of(options) == edition;
+        let judged = match listed {
+            true => judged.asked(options),
+            false => {
+                let case = judged.case.clone().with(options);
+                judge.judged(case).expect("what the entries can write")
+            }
+        };
         let fences = by_bytes(random.word() as usize);
         hold("a listed tree", &judged, fences, random, counts)?;
     }

@@ -27,6 +27,10 @@ pub fn faulty(shape: &Shape) -> Vec<Shape> {
             inside(faulty(a), &|copy| Shape::Then(copy, b.clone()));
             inside(faulty(b), &|copy| Shape::Then(a.clone(), copy));
         }
+        Shape::Both(a, b) => {
+            inside(faulty(a), &|copy| Shape::Both(copy, b.clone()));
+            inside(faulty(b), &|copy| Shape::Both(a.clone(), copy));
+        }
         _ => {}
     }
     copies
@@ -71,6 +75,7 @@ fn here(shape: &Shape) -> Vec<Shape> {
         )],
         Shape::Later(a, b) => vec![Shape::Then(a.clone(), b.clone())],
         Shape::Then(a, b) => swapped(a, b).into_iter().collect(),
+        Shape::Both(a, b) => vec![Shape::Then(a.clone(), b.clone())],
         _ => vec![],
     }
 }

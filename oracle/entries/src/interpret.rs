@@ -2,6 +2,7 @@
 
 use crate::shape::{Class, Shape, Table};
 use model::grammar::{LIST, NONE, NUMBER, REPLACE, RUN, TEXT};
+use model::options::Edition;
 use model::record::{Record, VALUE_PRESENT};
 use tokens::token::Token;
 use turso_parser::token::TokenType::*;
@@ -35,7 +36,9 @@ fn held(shape: &Shape) -> usize {
     match shape {
         Shape::When(_, inner) | Shape::Is(_, inner) => held(inner),
         Shape::Given(inner) | Shape::Filled(inner) => held(inner),
-        Shape::Later(first, second) | Shape::Then(first, second) => held(first) + held(second),
+        Shape::Later(first, second) | Shape::Then(first, second) | Shape::Both(first, second) => {
+            held(first) + held(second)
+        }
         // Both hold the same.
         Shape::Replacing(_, no) => held(no),
         Shape::Slot(_) | Shape::Commas(_) | Shape::Row(_) => 1,
@@ -76,17 +79,38 @@ pub struct Corners {
     pub commented: fn(&str) -> bool,
     /// An operator's text between its quotes.
     pub quoted: fn(&str) -> String,
+    /// Whether a comma stands between the two options of a table, from whether each of them writes something.
+    pub comma: fn(bool, bool) -> bool,
+    /// The second part of a without-rowid text, as it is written.
+    pub rowid: fn(&str) -> String,
     /// The text of a number.
     pub decimal: fn(i64) -> String,
 }
 
 /// As the crate has them.
-pub const CORNERS: Corners = Corners {
+const OF_THE_CRATE: Corners = Corners {
     white: is_white,
     commented: |source| source.contains("--"),
     quoted: |text| format!("'{text}'"),
+    comma: |_, _| false,
+    rowid: str::to_string,
     decimal: |number| number.to_string(),
 };
+
+/// As SQLite reads them (request viii).
+const FOR_SQLITE: Corners = Corners {
+    quoted: |text| format!("'{}'", text.replace('\'', "''")),
+    comma: |first, second| first && second,
+    ..OF_THE_CRATE
+};
+
+/// Those of an edition.
+pub const fn corners(edition: Edition) -> Corners {
+    match edition {
+        Edition::Crate => OF_THE_CRATE,
+        Edition::Sqlite => FOR_SQLITE,
+    }
+}
 
 /// Writes a tree's tokens by the entries.
 pub struct Interpreter<'a> {
@@ -183,6 +207,15 @@ impl Interpreter<'_> {
             Shape::Then(first, second) => {
                 self.write(first, of, next)?;
                 self.write(second, of, next)?;
+            }
+            Shape::Both(first, second) => {
+                let begin = self.out.len();
+                self.write(first, of, next)?;
+                let between = self.out.len();
+                self.write(second, of, next)?;
+                if (self.corners.comma)(between > begin, self.out.len() > between) {
+                    self.out.insert(between, Token::bare(TK_COMMA));
+                }
             }
             _ => self.chosen(shape, of, next)?,
         }
@@ -310,7 +343,7 @@ impl Interpreter<'_> {
             .filter(|word| !word.is_empty());
         if let [_, second] = words.collect::<Vec<_>>()[..] {
             self.put(Token::bare(TK_WITHOUT));
-            self.put(Token::id(second));
+            self.put(Token::id(&(self.corners.rowid)(second)));
         }
     }
 }

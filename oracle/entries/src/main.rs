@@ -1,11 +1,12 @@
-//! Holds what the entries of the grammar's definition write to what the crate writes.
+//! Holds what the entries of the grammar's definition write to what the crate writes, and in the SQLite edition to what the model
+//! makes of it.
 
 mod plant;
 
-use entries::interpret::{node, Node, CORNERS};
+use entries::interpret::{corners, node, Node};
 use entries::{places, written, Grammar, GRAMMAR_FILES, SPELLING_FILES};
 use model::files::hex;
-use model::samples::{sample, Sample};
+use model::samples::{sample_in_any, Sample};
 use std::collections::BTreeMap;
 use std::path::{Path, PathBuf};
 use std::{env, fs, process};
@@ -51,9 +52,9 @@ fn read(grammar: &str, spelling: &str) -> Result<Grammar, String> {
     entries::read(sources.iter().map(String::as_str))
 }
 
-/// Nothing, if the entries write the crate's text with the crate's tokens.
+/// Nothing, if the entries write the text of the sample's edition with its tokens.
 pub fn difference(grammar: &Grammar, sample: &Sample, root: &Node) -> Option<String> {
-    let tokens = match written(grammar, CORNERS, root, &sample.pair.1) {
+    let tokens = match written(grammar, corners(sample.edition), root, &sample.pair.1) {
         Ok(tokens) => tokens,
         Err(error) => return Some(error),
     };
@@ -70,7 +71,7 @@ fn compare(grammar: &Grammar, count: usize, seed: u64) -> Result<(), String> {
     let mut roots: BTreeMap<u16, usize> = BTreeMap::new();
     let mut records: BTreeMap<u16, usize> = BTreeMap::new();
     for _ in 0..count {
-        let sample = sample(&mut random);
+        let sample = sample_in_any(&mut random);
         let root = node(&sample.pair.0)?;
         hold(grammar, &sample, &root)?;
         *roots.entry(root.record.kind).or_default() += 1;
@@ -95,7 +96,7 @@ fn hold(grammar: &Grammar, sample: &Sample, root: &Node) -> Result<(), String> {
         return Ok(());
     };
     println!("kind {}\n{difference}", root.record.kind);
-    println!("crate:   {:?}", sample.text);
+    println!("{:?}: {:?}", sample.edition, sample.text);
     println!("tree: {}", hex(&sample.pair.0));
     println!("text: {}", hex(&sample.pair.1));
     Err("1 difference".to_string())

@@ -35,7 +35,7 @@ fn places(shape: &Shape, held: &mut Vec<Class>) -> Result<(), String> {
         Shape::When(_, inner) | Shape::Is(_, inner) => places(inner, held)?,
         Shape::Given(inner) | Shape::Filled(inner) => places(inner, held)?,
         Shape::Replacing(yes, no) => held.extend(the_same(yes, no)?),
-        Shape::Later(first, second) | Shape::Then(first, second) => {
+        Shape::Later(first, second) | Shape::Then(first, second) | Shape::Both(first, second) => {
             places(first, held)?;
             places(second, held)?;
         }

@@ -4,7 +4,7 @@ use crate::{difference, tally};
 use entries::faults::faulty;
 use entries::interpret::{node, Node};
 use entries::Grammar;
-use model::samples::{sample, Sample};
+use model::samples::{sample_in_any, Sample};
 use std::collections::BTreeMap;
 use tokens::random::Random;
 
@@ -20,7 +20,7 @@ pub fn plant(mut grammar: Grammar, count: usize, seed: u64) -> Result<(), String
     let mut random = Random::new(seed);
     let mut samples = vec![];
     for _ in 0..count {
-        let sample = sample(&mut random);
+        let sample = sample_in_any(&mut random);
         let root = node(&sample.pair.0)?;
         let mut kinds = BTreeMap::new();
         tally(&root, &mut kinds);

@@ -39,6 +39,8 @@ pub enum Shape {
     Source,
     Later(Box<Shape>, Box<Shape>),
     Then(Box<Shape>, Box<Shape>),
+    /// In the SQLite edition with a comma between, where both write something.
+    Both(Box<Shape>, Box<Shape>),
 }
 
 /// The entries by their kinds.
@@ -120,6 +122,7 @@ fn shape_of(value: &Value) -> Result<Shape, String> {
         ("rowid", []) => Shape::Rowid,
         ("source", []) => Shape::Source,
         ("later", [first, second]) => Shape::Later(inner(first)?, inner(second)?),
+        ("both", [first, second]) => Shape::Both(inner(first)?, inner(second)?),
         ("·", [first, second]) => Shape::Then(inner(first)?, inner(second)?),
         _ => return Err(format!("not a shape: {name}")),
     })

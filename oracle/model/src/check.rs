@@ -2,14 +2,19 @@
 
 use crate::grammar::{
     self, known_token, row, takes, Class, Slot, CHECK, LIST, NONE, NUMBER, ROOT, ROOT_ELEMENT, RUN,
-    TEXT, TOKEN, TOKENS,
+    TABLE_BODY, TEXT, TOKEN, TOKENS,
 };
-use crate::options::STRICT;
+use crate::options::{Edition, STRICT};
 use crate::record::{Record, MARK, MOST_BYTES, SIZE, VALUE_PRESENT};
+use crate::rowid::says_without_rowid;
 use crate::source::ends_inside;
 use tokens::encoding::{text_in, Refusal};
 
 pub const DEEPEST: usize = 64;
+
+/// Which child of a Check is its source, and which of a table's body its without-rowid text; the first is 0.
+pub const SOURCE: (u16, usize) = (CHECK, 1);
+pub const WITHOUT_ROWID: (u16, usize) = (TABLE_BODY, 2);
 
 /// The number and place of the first refusal, (0, 0) if the tree is admitted.
 pub fn check(tree: &[u8], text: &[u8]) -> (u32, u32) {
@@ -32,6 +37,7 @@ fn first_refusal(options: u32, tree: &[u8], text: &[u8]) -> Result<(), Refusal> 
         tree,
         text: text_in(text)?,
         strict: options & STRICT != 0,
+        edition: Edition::of(options),
         next: 0,
     };
     walk.record(&ROOT, None, 1)?;
@@ -43,15 +49,16 @@ struct Walk<'a> {
     text: &'a str,
     /// Whether a CHECK source that is left open is refused.
     strict: bool,
+    edition: Edition,
     next: usize,
 }
 
 impl Walk<'_> {
-    /// The next record, which stands in this slot below a record of this kind, and all below it.
+    /// The next record, which stands in this slot and is this child of a record of this kind, and all below it.
     fn record(
         &mut self,
         slot: &'static Slot,
-        above: Option<u16>,
+        child_of: Option<(u16, usize)>,
         depth: usize,
     ) -> Result<(), Refusal> {
         let index = self.next as u32;
@@ -62,7 +69,8 @@ impl Walk<'_> {
             (3, record.mark == MARK),
             (4, allowed),
             (5, part_inside(&record, self.text)),
-            (9, !self.left_open(&record, above)),
+            (9, !self.left_open(&record, child_of)),
+            (10, !self.says_otherwise(&record, child_of)),
             (6, depth <= DEEPEST),
         ];
         match tests.iter().find(|(_, passed)| !passed) {
@@ -72,21 +80,29 @@ impl Walk<'_> {
     }
 
     fn children(&mut self, parent: &Record, slot: &Slot, depth: usize) -> Result<(), Refusal> {
-        let above = Some(parent.kind);
+        let child = |at: usize| Some((parent.kind, at));
         if let Some(every) = slot_of_every_child(parent.kind, slot) {
-            return (0..parent.children).try_for_each(|_| self.record(every, above, depth));
+            let mut children = 0..usize::from(parent.children);
+            return children.try_for_each(|at| self.record(every, child(at), depth));
         }
         let slots = row(parent.kind).map_or(&[][..], |kind| kind.slots);
-        slots
-            .iter()
-            .try_for_each(|slot| self.record(slot, above, depth))
+        let mut slots = slots.iter().enumerate();
+        slots.try_for_each(|(at, slot)| self.record(slot, child(at), depth))
     }
 
-    /// Whether the record is the source of a CHECK, the one TEXT that a Check has, and is left open although that is
-    /// asked to be refused. False of a part that is not inside the text.
-    fn left_open(&self, record: &Record, above: Option<u16>) -> bool {
-        let source = self.strict && record.kind == TEXT && above == Some(CHECK);
+    /// Whether the record is the source of a CHECK, and is left open although that is asked to be refused. False of a part
+    /// that is not inside the text.
+    fn left_open(&self, record: &Record, child_of: Option<(u16, usize)>) -> bool {
+        let source = self.strict && record.kind == TEXT && child_of == Some(SOURCE);
         source && part(record, self.text).is_some_and(ends_inside)
+    }
+
+    /// Whether the record is the without-rowid text of a table, and says something else although SQLite is to read it. False
+    /// of a part that is not inside the text.
+    fn says_otherwise(&self, record: &Record, child_of: Option<(u16, usize)>) -> bool {
+        let is_text = record.kind == TEXT && child_of == Some(WITHOUT_ROWID);
+        let looked_at = is_text && self.edition == Edition::Sqlite;
+        looked_at && part(record, self.text).is_some_and(|text| !says_without_rowid(text))
     }
 
     /// Nothing may be left over.

@@ -1,6 +1,7 @@
 //! From values of the crate's own types to a tree and its text.
 
 mod clause;
+mod edition;
 mod select;
 mod statement;
 mod writer;

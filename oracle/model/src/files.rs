@@ -3,14 +3,9 @@
 use crate::damage::Case;
 use std::io::{self, ErrorKind, Read, Write};
 
-/// Options, then the case without them.
+/// Options, tree length, text length, tree, text.
 pub fn write_case(out: &mut impl Write, case: &Case) -> io::Result<()> {
     out.write_all(&case.options.to_le_bytes())?;
-    write_pair(out, case)
-}
-
-/// Tree length, text length, tree, text.
-pub fn write_pair(out: &mut impl Write, case: &Case) -> io::Result<()> {
     for bytes in [&case.tree, &case.text] {
         let length = u32::try_from(bytes.len()).expect("a length of four bytes");
         out.write_all(&length.to_le_bytes())?;

@@ -1,6 +1,7 @@
 //! The fixed list of cases: each kind and each refusal at its edges, then random ones.
 
 mod edges;
+pub mod editions;
 mod kinds;
 mod order;
 mod sources;
@@ -17,6 +18,7 @@ const LARGE: usize = 4_000;
 pub fn all(count: usize, seed: u64) -> Vec<Case> {
     let mut cases = plain(seed);
     cases.extend(sources::cases());
+    cases.extend(editions::cases());
     let random_ones = Row::new(seed).map(|(_, case)| case);
     let small = random_ones.filter(|case| case.tree.len() + case.text.len() <= LARGE);
     let missing = count.saturating_sub(cases.len());

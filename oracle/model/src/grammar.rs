@@ -48,7 +48,9 @@ pub const TEXT: u16 = 4;
 pub const NUMBER: u16 = 5;
 pub const CMD: u16 = 10;
 pub const FIRST_STMT: u16 = 32;
+pub const TABLE_BODY: u16 = 98;
 pub const CHECK: u16 = 103;
+pub const OPERATOR: u16 = 116;
 pub const REPLACE: u16 = 119;
 
 pub static ROOT: Slot = one(Class::Root);

@@ -2,6 +2,7 @@
 
 pub mod check;
 pub mod damage;
+pub mod editions;
 pub mod encode;
 pub mod files;
 pub mod fixed;
@@ -13,6 +14,7 @@ pub mod outline;
 pub mod random;
 pub mod record;
 pub mod row;
+pub mod rowid;
 pub mod samples;
 pub mod source;
 pub mod sources;

@@ -36,26 +36,21 @@ fn number<T: std::str::FromStr>(word: &str) -> T {
 fn write_cases(count: usize, seed: u64, input: &str, expected: &str) -> io::Result<()> {
     let cases = fixed::all(count, seed);
     let lines = cases.iter().map(|case| (case, files::answer(case)));
-    write_lines(lines.collect(), files::write_case, input, expected)
+    write_lines(lines.collect(), input, expected)
 }
 
 fn write_texts(input: &str, expected: &str) -> io::Result<()> {
     let all = texts::all();
     let lines = all.iter().map(|judged| (&judged.case, texts::line(judged)));
-    write_lines(lines.collect(), files::write_pair, input, expected)
+    write_lines(lines.collect(), input, expected)
 }
 
-/// Cases in one of their two forms, and a line for each.
-fn write_lines(
-    cases: Vec<(&Case, String)>,
-    write: fn(&mut Vec<u8>, &Case) -> io::Result<()>,
-    input: &str,
-    expected: &str,
-) -> io::Result<()> {
+/// Cases, and a line for each.
+fn write_lines(cases: Vec<(&Case, String)>, input: &str, expected: &str) -> io::Result<()> {
     let mut bytes = Vec::new();
     let mut lines = String::new();
     for (case, line) in &cases {
-        write(&mut bytes, case)?;
+        files::write_case(&mut bytes, case)?;
         lines += &format!("{line}\n");
     }
     fs::write(input, &bytes)?;

@@ -3,7 +3,7 @@
 use crate::check::check;
 use crate::damage::{damage, Case};
 use crate::encode::Pair;
-use crate::{grow, options, random, sources};
+use crate::{editions, grow, options, random, sources};
 use tokens::random::Random;
 
 /// Damaged copies of each good tree.
@@ -48,7 +48,8 @@ impl Iterator for Row {
     }
 }
 
-/// The same row, each case with options, half of them with other CHECK sources, and a table of CHECKs in the place of some.
+/// The same row, each case with options, half of them with other CHECK sources, half with other without-rowid texts, and a
+/// table of CHECKs in the place of some.
 pub fn with_options(seed: u64) -> impl Iterator<Item = Named> {
     // Other numbers than the row's, which stays as it is.
     let mut random = Random::new(!seed);
@@ -58,6 +59,9 @@ pub fn with_options(seed: u64) -> impl Iterator<Item = Named> {
         }
         if random.one_in(2) {
             sources::exchange(&mut random, &mut case);
+        }
+        if random.one_in(2) {
+            editions::exchange(&mut random, &mut case);
         }
         (name, case.with(options::any(&mut random)))
     })

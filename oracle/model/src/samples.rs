@@ -1,8 +1,11 @@
 //! Random values, each with its tree and with what the crate writes for it.
 
+use crate::check::check_with;
 use crate::damage::Case;
+use crate::editions;
 use crate::encode::{encode_by, encode_list_by, Encode, Pair, Writer};
 use crate::grammar::{CHECK, RUN, TOKEN};
+use crate::options::{Edition, SQLITE};
 use crate::random::{cmd, Maker, ELEMENTS};
 use crate::record::{Record, SIZE, VALUE_PRESENT};
 use tokens::judge::text_of;
@@ -11,22 +14,26 @@ use tokens::token::Token;
 use tokens::values::random_token;
 use turso_parser::token::TokenType::TK_COMMA;
 
-/// A tree, and the crate's tokens and text for the value that it was made from.
+/// A tree, and the tokens and the text, in an edition, of the value that it was made from. RUNs that the host collected are of
+/// this edition, too.
 pub struct Sample {
+    pub edition: Edition,
     pub pair: Pair,
     pub tokens: Vec<Token>,
     pub text: String,
 }
 
-/// A case, and the crate's text or the model's refusal.
+/// A case, and the text of its edition or the model's refusal.
+#[derive(Clone)]
 pub struct Judged {
     pub case: Case,
     pub expected: Result<String, (u32, u32)>,
 }
 
 impl Judged {
-    /// The same tree and text, which have no options, in a call with these.
+    /// The same tree and text, which are admitted, in a call with these options, which ask for the same edition.
     pub fn asked(&self, options: u32) -> Judged {
+        assert_eq!(Edition::of(self.case.options), Edition::of(options));
         let case = self.case.clone().with(options);
         let expected = match case.refusal() {
             (0, _) => self.expected.clone(),
@@ -42,15 +49,23 @@ const FEW: usize = 3;
 const TOKENS: usize = 12;
 /// Most bytes of a token's value.
 const LONGEST: usize = 60;
+/// One sample in so many has what the editions differ in.
+const EDITIONS: usize = 8;
 /// Most brackets around a table; more than a tree may have.
 const BRACKETS: usize = 31;
 
 /// A Cmd, a statement, a clause, a RUN or a LIST, with RUNs in the place of records or without.
 pub fn sample(random: &mut Random) -> Sample {
+    sample_in(Edition::Crate, random)
+}
+
+/// The same in an edition.
+pub fn sample_in(edition: Edition, random: &mut Random) -> Sample {
     let runs = random.one_in(2).then(|| random.word());
+    let writer = writer(runs).for_edition(edition);
     let drawn = match random.below(8) {
-        0 => list_by(writer(runs), &values(random)),
-        _ => sample_by(writer(runs), &*value(random)),
+        0 => list_by(writer, &values(random)),
+        _ => sample_by(writer, &*value(random)),
     };
     match random.one_in(3) {
         true => exchanged(random, drawn),
@@ -58,9 +73,38 @@ pub fn sample(random: &mut Random) -> Sample {
     }
 }
 
+/// One of either edition, and more often than others what the editions differ in; none that SQLite's edition refuses.
+pub fn sample_in_any(random: &mut Random) -> Sample {
+    loop {
+        let edition = random.pick(&[Edition::Crate, Edition::Sqlite]);
+        let sample = match random.one_in(EDITIONS) {
+            true => {
+                let value = editions::value(random);
+                drawn_in(edition, random, &*value)
+            }
+            false => sample_in(edition, random),
+        };
+        let (tree, text) = &sample.pair;
+        if edition == Edition::Crate || check_with(SQLITE, tree, text).0 != 10 {
+            return sample;
+        }
+    }
+}
+
 /// The sample of a value.
 pub fn of(value: &dyn Encode) -> Sample {
-    sample_by(Writer::default(), value)
+    of_in(Edition::Crate, value)
+}
+
+/// The sample of a value in an edition.
+pub fn of_in(edition: Edition, value: &dyn Encode) -> Sample {
+    sample_by(Writer::default().for_edition(edition), value)
+}
+
+/// The same, with RUNs in the place of records or without.
+pub fn drawn_in(edition: Edition, random: &mut Random, value: &dyn Encode) -> Sample {
+    let runs = random.one_in(2).then(|| random.word());
+    sample_by(writer(runs).for_edition(edition), value)
 }
 
 /// The sample of a value, with RUNs in the place of some records.
@@ -79,8 +123,9 @@ impl Sample {
         self.judged_with(0)
     }
 
-    /// The same for a call with options.
+    /// The same for a call with options, which ask for the sample's edition.
     pub fn judged_with(self, options: u32) -> Judged {
+        assert_eq!(self.edition, Edition::of(options));
         let case = Case::from(self.pair).with(options);
         let expected = match case.refusal() {
             (0, _) => Ok(self.text),
@@ -95,23 +140,27 @@ fn writer(runs: Option<u64>) -> Writer {
 }
 
 fn sample_by(out: Writer, value: &dyn Encode) -> Sample {
+    let edition = out.edition();
     Sample {
+        edition,
         pair: encode_by(out, value),
-        tokens: value.tokens(),
-        text: value.text(),
+        tokens: value.tokens_in(edition),
+        text: value.text_in(edition),
     }
 }
 
 /// A root LIST is its elements with commas between them.
 fn list_by(out: Writer, values: &[Box<dyn Encode>]) -> Sample {
+    let edition = out.edition();
     let mut tokens = vec![];
     for (index, value) in values.iter().enumerate() {
         if index > 0 {
             tokens.push(Token::bare(TK_COMMA));
         }
-        tokens.extend(value.tokens());
+        tokens.extend(value.tokens_in(edition));
     }
     Sample {
+        edition,
         pair: encode_list_by(out, values),
         text: text_of(&tokens),
         tokens,
@@ -165,7 +214,12 @@ fn exchanged(random: &mut Random, sample: Sample) -> Sample {
     let mut tokens = sample.tokens;
     tokens.splice(at..at + old.len(), new);
     let text = text_of(&tokens);
-    Sample { pair, tokens, text }
+    Sample {
+        pair,
+        tokens,
+        text,
+        ..sample
+    }
 }
 
 /// The RUNs that hold something; not a CHECK's, for which its source may be written.

@@ -1,6 +1,7 @@
 //! Random CHECK sources (request vii), and tables with several of them.
 
 use crate::damage::Case;
+use crate::editions;
 use crate::encode::{Pair, Writer};
 use crate::grammar::{CHECK, LIST, NONE, RUN, TEXT};
 use crate::record::Record;
@@ -95,7 +96,7 @@ pub fn table(random: &mut Random) -> Pair {
     for _ in 0..constraints {
         random.constraint(&mut out);
     }
-    random.text_or_none(&mut out);
+    random.rowid_or_none(&mut out);
     random.text_or_none(&mut out);
     out.pair()
 }
@@ -154,6 +155,14 @@ impl Drawn<'_> {
         out.kind(CHECK);
         out.tokens(&self.run());
         self.text_or_none(out);
+    }
+
+    /// What SQLite reads, or what looks like a source.
+    fn rowid_or_none(&mut self, out: &mut Writer) {
+        match self.0.one_in(2) {
+            true => out.text(&editions::rowid(self.0)),
+            false => self.text_or_none(out),
+        }
     }
 
     fn text_or_none(&mut self, out: &mut Writer) {

@@ -1,7 +1,8 @@
-//! The fixed list of trees, each with the crate's text or the model's refusal.
+//! The fixed list of trees, each with the text of its edition or the model's refusal.
 
 mod corners;
 mod covering;
+mod editions;
 
 use crate::files::hex;
 use crate::fixed;
@@ -25,7 +26,7 @@ pub fn all() -> Vec<Judged> {
     let mut all = corners::samples();
     all.extend(covering::samples(SEED));
     let judged = all.into_iter().map(Sample::judged);
-    judged.chain(refused()).collect()
+    judged.chain(refused()).chain(editions::judged()).collect()
 }
 
 /// `0 LENGTH HEXTEXT`, or `NUMBER PLACE`.

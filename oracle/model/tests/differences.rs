@@ -1,9 +1,9 @@
 //! The smallest inputs of docs/DIFFERENCES.md: what the crate writes for them, and what is refused.
 
 use model::encode::Encode;
-use model::options::STRICT;
+use model::options::{Edition, SQLITE, STRICT};
 use model::random::select::{only, plain};
-use model::samples::{of, of_list};
+use model::samples::{of, of_in, of_list};
 use tokens::token::Token;
 use turso_parser::ast::*;
 use turso_parser::token::TokenType::TK_COMMA;
@@ -60,7 +60,8 @@ fn what_the_crate_writes_and_sqlite_does_not_read() {
         func_name: None,
     };
     assert_eq!(written(&operator), "OPERATOR '''");
-    assert_eq!(written(&options("a b", Some("c"))), "() WITHOUT b c");
+    let both = options("WITHOUT ROWID", Some("STRICT"));
+    assert_eq!(written(&both), "() WITHOUT ROWID STRICT");
     assert_eq!(written(&options("a b", None)), "() WITHOUT b");
     assert_eq!(written(&options("a", None)), "()");
     let values = |rows| plain(OneSelect::Values(rows));
@@ -80,6 +81,23 @@ fn what_the_crate_writes_and_sqlite_does_not_read() {
         ctes: vec![],
     };
     assert_eq!(written(&with), "WITH");
+}
+
+#[test]
+fn what_sqlite_reads() {
+    let answer = |value: &dyn Encode| of_in(Edition::Sqlite, value).judged_with(SQLITE).expected;
+    let written = |value: &dyn Encode| answer(value).expect("an admitted tree");
+    let operator = TypeOperator {
+        op: "'".to_string(),
+        func_name: None,
+    };
+    assert_eq!(written(&operator), "OPERATOR ''''");
+    let both = options("WITHOUT ROWID", Some("STRICT"));
+    assert_eq!(written(&both), "() WITHOUT ROWID, STRICT");
+    assert_eq!(written(&options("without rowid", None)), "() WITHOUT rowid");
+    for other in ["a b", "a", "", "WITHOUT ROWID x"] {
+        assert_eq!(answer(&options(other, None)), Err((10, 3)));
+    }
 }
 
 #[test]

@@ -3,10 +3,11 @@
 use model::check::{check, check_with};
 use model::damage::Case;
 use model::fixed::{drop_type, of};
-use model::grammar::{CHECK, LIST, NONE, NUMBER, RUN, TEXT, TOKEN};
+use model::grammar::{CHECK, LIST, NONE, NUMBER, RUN, TABLE_BODY, TEXT, TOKEN};
 use model::grow;
-use model::options::STRICT;
+use model::options::{MEANT, SQLITE, STRICT};
 use model::record::{Record, SIZE, VALUE_PRESENT};
+use model::rowid::says_without_rowid;
 use model::source::ends_inside;
 use tokens::random::Random;
 
@@ -255,7 +256,7 @@ fn refusal_9() {
     ] {
         let case = two_checks(sources);
         assert_eq!(answer(&case), (0, 0));
-        assert_eq!(case.clone().with(2).refusal(), (0, 0));
+        assert_eq!(case.clone().with(!STRICT).refusal(), (0, 0));
         assert_eq!(case.clone().with(STRICT).refusal(), expected);
         assert_eq!(case.with(u32::MAX).refusal(), expected);
     }
@@ -282,6 +283,88 @@ fn where_9_stands_in_the_order() {
     assert_eq!(cut.refusal(), (9, 3));
     cut.tree.truncate(3 * SIZE);
     assert_eq!(cut.refusal(), (7, 3));
+}
+
+/// A table's body with this without-rowid text, which is record 3, and this CHECK source behind it, record 7, in a LIST.
+fn body_and_check(rowid: &str, source: &str) -> Case {
+    let length = |text: &str| text.len() as u32;
+    let records = [
+        Record::new(LIST, 2),
+        Record::new(TABLE_BODY, 4),
+        Record::new(LIST, 0),
+        Record::new(LIST, 0),
+        Record::part(TEXT, 0, 0, length(rowid)),
+        Record::new(NONE, 0),
+        Record::new(CHECK, 2),
+        Record::new(RUN, 0),
+        Record::part(TEXT, 0, length(rowid), length(source)),
+    ];
+    of(&records, format!("{rowid}{source}").as_bytes())
+}
+
+#[test]
+fn refusal_10() {
+    for (text, expected) in [
+        ("WITHOUT ROWID", (0, 0)),
+        ("without  rowid", (0, 0)),
+        ("", (10, 4)),
+        ("a b", (10, 4)),
+        ("WITHOUT", (10, 4)),
+        ("WITHOUT ROWID x", (10, 4)),
+    ] {
+        let case = body_and_check(text, "x");
+        assert_eq!(case.refusal(), (0, 0));
+        assert_eq!(case.clone().with(!SQLITE).refusal(), (0, 0));
+        assert_eq!(case.clone().with(SQLITE).refusal(), expected);
+        assert_eq!(case.with(u32::MAX).refusal(), expected);
+    }
+    let mut empty = body_and_check("", "x").with(SQLITE);
+    empty.edit(4, |record| (record.start, record.length) = (0, 0));
+    assert_eq!(empty.refusal(), (10, 4));
+    empty.edit(4, |record| record.kind = NONE);
+    assert_eq!(empty.refusal(), (0, 0));
+}
+
+#[test]
+fn where_10_stands_in_the_order() {
+    let other = body_and_check("a b", "'").with(MEANT);
+    let with = |index: usize, change: fn(&mut Record)| {
+        let mut case = other.clone();
+        case.edit(index, change);
+        case.refusal()
+    };
+    assert_eq!(with(0, |_| ()), (10, 4));
+    assert_eq!(with(4, |record| record.mark = [0, 0]), (3, 4));
+    assert_eq!(with(4, |record| record.flags = 1), (4, 4));
+    assert_eq!(with(4, |record| record.length = 9), (5, 4));
+    assert_eq!(with(3, |record| record.flags = 1), (4, 3));
+    assert_eq!(with(5, |record| record.mark = [0, 0]), (10, 4));
+    assert_eq!(with(8, |record| record.length = 9), (10, 4));
+    assert_eq!(other.clone().with(STRICT).refusal(), (9, 8));
+    assert_eq!(
+        body_and_check("WITHOUT ROWID", "'").with(MEANT).refusal(),
+        (9, 8)
+    );
+}
+
+#[test]
+fn texts_that_say_without_rowid_or_not() {
+    for text in [
+        "WITHOUT ROWID",
+        "wItHoUt\u{3000}RoWiD",
+        "\u{85}without\u{B}rowid ",
+    ] {
+        assert!(says_without_rowid(text), "{text:?}");
+    }
+    for text in [
+        "",
+        "ROWID WITHOUT",
+        "w\u{131}thout rowid",
+        "WITHOUT\u{200B}ROWID",
+        "WITHOUT ROWID,",
+    ] {
+        assert!(!says_without_rowid(text), "{text:?}");
+    }
 }
 
 #[test]

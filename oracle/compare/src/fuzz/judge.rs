@@ -1,8 +1,9 @@
 //! What measure and render have to answer for any tree and text.
 
-use entries::interpret::{node, CORNERS};
+use entries::interpret::{corners, node};
 use entries::{read, written, Grammar};
 use model::damage::Case;
+use model::options::Edition;
 use model::samples::Judged;
 use tokens::judge::text_of;
 
@@ -36,7 +37,8 @@ impl Judge {
 
     fn text(&self, case: &Case) -> Result<String, String> {
         let root = node(&case.tree)?;
-        let tokens = written(&self.grammar, CORNERS, &root, &case.text)?;
+        let corners = corners(Edition::of(case.options));
+        let tokens = written(&self.grammar, corners, &root, &case.text)?;
         Ok(text_of(&tokens))
     }
 }

@@ -1,14 +1,15 @@
 //! Trees and texts to try, those that were answered in a new way kept for later.
 
 use super::mutate::mutate;
-use crate::sources::drawn;
+use crate::drawn::{self, EDITIONS, SOURCES};
 use model::damage::sizes::of_records;
 use model::damage::text::filled_to;
 use model::damage::{damage, Case};
 use model::grammar::{LIST, NONE, NUMBER, RUN, TEXT, TOKEN};
+use model::options::Edition;
 use model::record::{Record, MARK, MOST_BYTES, MOST_RECORDS, SIZE};
-use model::samples::{sample, Judged};
-use model::{grow, options, sources};
+use model::samples::{drawn_in, sample, Judged};
+use model::{editions, grow, options, sources};
 use std::collections::HashSet;
 use tokens::random::Random;
 use tokens::token::VALUE_PRESENT;
@@ -28,10 +29,10 @@ const LIMITS: usize = 400;
 /// ColumnsAndConstraints with its options, Check with its source, OperatorClause with its quotes.
 const CORNERED: [u16; 3] = [98, 103, 116];
 /// What their texts are made of, and fewer pieces than this.
-const CORNERS: [&str; 25] = [
-    "a", "b", "é", " ", "\t", "\n", "\x0B", "\u{1F}", "\u{85}", "\u{A0}", "\u{1680}", "\u{2003}",
-    "\u{200B}", "\u{2028}", "\u{3000}", "\u{FEFF}", "-", "--", "'", "\"", "`", "/*", "*/", "/",
-    "*",
+const CORNERS: [&str; 27] = [
+    "WITHOUT", "rowid", "a", "b", "é", " ", "\t", "\n", "\x0B", "\u{1F}", "\u{85}", "\u{A0}",
+    "\u{1680}", "\u{2003}", "\u{200B}", "\u{2028}", "\u{3000}", "\u{FEFF}", "-", "--", "'", "\"",
+    "`", "/*", "*/", "/", "*",
 ];
 const PIECES: usize = 7;
 
@@ -55,7 +56,7 @@ impl Pool {
         if random.one_in(LIMITS) {
             return ("at the limits of length", limits(random));
         }
-        match random.below(17) {
+        match random.below(18) {
             0 => ("random bytes", noise(random)),
             1 => ("random records", records(random)),
             2..=3 => ("a good tree", good(random)),
@@ -63,7 +64,11 @@ impl Pool {
             5..=8 => ("damaged", self.damaged(random)),
             9..=13 => ("bytes changed", self.changed(random)),
             14 => ("another's text", self.exchanged(random)),
-            15 => ("sources of CHECKs", drawn::tree(random).1),
+            15 => ("sources of CHECKs", drawn::tree(&SOURCES, random).1),
+            16 => (
+                "what the editions differ in",
+                drawn::tree(&EDITIONS, random).1,
+            ),
             _ => ("two trees joined", self.joined(random)),
         }
     }
@@ -131,11 +136,15 @@ impl Pool {
     }
 }
 
-/// Grown from the grammar, from a value of the crate's own types, or a table with CHECKs.
+/// Grown from the grammar, from a value of the crate's own types, a table with CHECKs, or what the editions differ in.
 fn good(random: &mut Random) -> Case {
-    match random.below(8) {
+    match random.below(9) {
         0 => sample(random).pair.into(),
         1 => sources::table(random).into(),
+        2 => {
+            let value = editions::value(random);
+            drawn_in(Edition::Crate, random, &*value).pair.into()
+        }
         _ => {
             let records = random.below(GROWN);
             grow::tree(random, records).into()

@@ -1,16 +1,18 @@
 //! Small calls to measure and render in Rust, by the entries of the definition, with faults that can be planted in them.
 
+mod edition;
 mod strict;
 
 use crate::faults::{planted, Fault};
 use crate::fuzz::SOURCES;
 use crate::stand_in;
 use entries::faults::faulty;
-use entries::interpret::{node, Corners, CORNERS};
+use entries::interpret::{node, Corners};
 use entries::shape::Shape;
 use entries::{read, written, Grammar};
 use model::check::{check, DEEPEST};
 use model::grammar::LIST;
+use model::options::Edition;
 use model::outline::outline;
 use model::record::{Record, MOST_BYTES};
 use std::slice::{from_raw_parts, from_raw_parts_mut};
@@ -66,10 +68,12 @@ pub unsafe extern "C" fn kinyandoma_measure_with(
         from_raw_parts(tree, tree_len),
         from_raw_parts(text, text_len),
     );
-    let options = match planted(Fault::SwitchInRenderOnly) {
-        true => 0,
-        false => options,
+    let left_out = match () {
+        _ if planted(Fault::SwitchInRenderOnly) => 1,
+        _ if planted(Fault::EditionInRenderOnly) => 2,
+        _ => 0,
     };
+    let options = options & !left_out;
     let length = rendered(options, tree, text).map(|bytes| bytes.len() as u32);
     packed(match length {
         Ok(length) => (0, length + u32::from(planted(Fault::LengthOneMore))),
@@ -142,13 +146,15 @@ fn spoil(fault: Fault, out: &mut [u8]) {
 }
 
 fn rendered(options: u32, tree: &[u8], text: &[u8]) -> Result<Vec<u8>, Refusal> {
-    match strict::refusal(options, tree, text, refusal(tree, text)) {
+    let edition = edition::of(options);
+    let without = strict::refusal(options, tree, text, refusal(tree, text));
+    match edition::refusal(edition, tree, text, without) {
         (0, _) => {}
         refusal => return Err(refusal),
     }
     let root = node(tree).map_err(|_| BROKEN)?;
     let grammar = GRAMMAR.read().expect("no panic holds it");
-    let mut tokens = written(&grammar, corners(), &root, text).map_err(|_| BROKEN)?;
+    let mut tokens = written(&grammar, corners(edition), &root, text).map_err(|_| BROKEN)?;
     if planted(Fault::RootListWithoutCommas) && root.record.kind == LIST {
         tokens.retain(|token| token.number != TK_COMMA as u16);
     }
@@ -169,8 +175,8 @@ fn refusal(tree: &[u8], text: &[u8]) -> Refusal {
     }
 }
 
-fn corners() -> Corners {
-    let mut corners = CORNERS;
+fn corners(edition: Edition) -> Corners {
+    let mut corners = edition::corners_of(edition);
     if planted(Fault::WhiteIsBlank) {
         corners.white = |c| c.is_ascii_whitespace();
     }
@@ -182,9 +188,6 @@ fn corners() -> Corners {
     }
     if planted(Fault::CommentOutsideLiteralsOnly) {
         corners.commented = |source| outside_literals(source).contains("--");
-    }
-    if planted(Fault::OperatorQuotesDoubled) {
-        corners.quoted = |text| format!("'{}'", text.replace('\'', "''"));
     }
     corners.decimal = subtracted;
     corners

@@ -2,6 +2,7 @@
 
 use super::{Encode, Pair};
 use crate::grammar::{row, LIST, NONE, NUMBER, RUN, TEXT, TOKEN};
+use crate::options::Edition;
 use crate::record::{Record, SIZE, VALUE_PRESENT};
 use std::convert::Infallible;
 use tokens::random::Random;
@@ -18,6 +19,8 @@ pub struct Writer {
     text: Vec<u8>,
     /// Draws the values that become RUNs; with none, none does.
     draw: Option<Random>,
+    /// Whose tokens such RUNs have.
+    edition: Edition,
 }
 
 impl Writer {
@@ -29,11 +32,20 @@ impl Writer {
         }
     }
 
+    /// The same, with the tokens of this edition in the RUNs.
+    pub fn for_edition(self, edition: Edition) -> Writer {
+        Writer { edition, ..self }
+    }
+
+    pub fn edition(&self) -> Edition {
+        self.edition
+    }
+
     /// A value in a slot or a list.
     pub fn node(&mut self, value: &dyn Encode) {
         let drawn = self.draw.as_mut();
         match drawn.is_some_and(|random| random.one_in(DRAWN)) {
-            true => self.tokens(&value.tokens()),
+            true => self.tokens(&value.tokens_in(self.edition)),
             false => value.encode(self),
         }
     }

@@ -1,5 +1,7 @@
 //! What the crate writes for a value that has a kind of its own.
 
+use super::edition::{with_commas, ForSqlite};
+use crate::options::Edition;
 use std::convert::Infallible;
 use tokens::judge::text_of;
 use tokens::token::Token;
@@ -12,9 +14,27 @@ pub trait Written {
     /// In the order in which the crate writes them.
     fn tokens(&self) -> Vec<Token>;
 
+    /// Those of the SQLite edition (request viii).
+    fn tokens_for_sqlite(&self) -> Vec<Token>;
+
     /// As the crate shows the value, or its stream over the tokens where it cannot show it alone.
     fn text(&self) -> String {
         text_of(&self.tokens())
+    }
+
+    fn tokens_in(&self, edition: Edition) -> Vec<Token> {
+        match edition {
+            Edition::Crate => self.tokens(),
+            Edition::Sqlite => self.tokens_for_sqlite(),
+        }
+    }
+
+    /// In the SQLite edition: what the crate's stream writes for its tokens.
+    fn text_in(&self, edition: Edition) -> String {
+        match edition {
+            Edition::Crate => self.text(),
+            Edition::Sqlite => text_of(&self.tokens_for_sqlite()),
+        }
     }
 }
 
@@ -45,6 +65,10 @@ macro_rules! shown {
                 tokens_of(self)
             }
 
+            fn tokens_for_sqlite(&self) -> Vec<Token> {
+                with_commas(tokens_of(&self.clone().for_sqlite()))
+            }
+
             fn text(&self) -> String {
                 self.to_string()
             }
@@ -66,6 +90,10 @@ macro_rules! cut {
                 let around: fn($type) -> Stmt = $around;
                 let tokens = tokens_of(&around(self.clone()));
                 tokens[$first..tokens.len() - $last].to_vec()
+            }
+
+            fn tokens_for_sqlite(&self) -> Vec<Token> {
+                self.clone().for_sqlite().tokens()
             }
         })*
     };
@@ -131,6 +159,10 @@ fn create_index(pair: (Name, Box<Expr>)) -> Stmt {
 /// Any tokens: what the crate's stream writes for them.
 impl Written for Vec<Token> {
     fn tokens(&self) -> Vec<Token> {
+        self.clone()
+    }
+
+    fn tokens_for_sqlite(&self) -> Vec<Token> {
         self.clone()
     }
 }

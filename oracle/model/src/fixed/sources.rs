@@ -3,7 +3,7 @@
 use super::{edited, of};
 use crate::damage::Case;
 use crate::grammar::{CHECK, LIST, NONE, NUMBER, RUN, TEXT, TOKEN};
-use crate::options::STRICT;
+use crate::options::{MEANT, STRICT};
 use crate::record::{Record, SIZE, VALUE_PRESENT};
 
 /// Sources that end inside nothing, or inside a line comment.
@@ -84,8 +84,8 @@ const OPEN: [&str; 36] = [
     "['",
 ];
 
-/// Bits beside the switch: none, one, all.
-const OTHERS: [u32; 5] = [0, 1 << 1, 1 << 8, 1 << 31, !STRICT];
+/// Bits that mean nothing: none, one, all.
+const OTHERS: [u32; 5] = [0, 1 << 2, 1 << 8, 1 << 31, !MEANT];
 
 pub fn cases() -> Vec<Case> {
     let mut cases = Vec::new();
@@ -267,7 +267,7 @@ fn with_depth() -> Vec<Case> {
 }
 
 /// FROM clauses (85) and brackets (90), below one another, and a RUN at this depth.
-fn subs(depth: usize) -> Case {
+pub fn subs(depth: usize) -> Case {
     let mut records = Vec::new();
     let kinds = [85, 90];
     for level in 1..depth {

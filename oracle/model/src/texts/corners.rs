@@ -1,5 +1,6 @@
 //! Values by hand: the documents' cases and the corners of sections 4 and 6.
 
+use crate::editions::{NOT_WHITE, WHITE};
 use crate::encode::Encode;
 use crate::fixed::{drop_type, of as case_of};
 use crate::grammar::{RUN, TEXT, TOKEN};
@@ -128,17 +129,6 @@ fn table(without_rowid: Option<&str>, strict: Option<&str>) -> CreateTableBody {
         },
     }
 }
-
-/// White space as Unicode has it, and characters beside it.
-const WHITE: [char; 25] = [
-    '\u{9}', '\u{A}', '\u{B}', '\u{C}', '\u{D}', '\u{20}', '\u{85}', '\u{A0}', '\u{1680}',
-    '\u{2000}', '\u{2001}', '\u{2002}', '\u{2003}', '\u{2004}', '\u{2005}', '\u{2006}', '\u{2007}',
-    '\u{2008}', '\u{2009}', '\u{200A}', '\u{2028}', '\u{2029}', '\u{202F}', '\u{205F}', '\u{3000}',
-];
-const NOT_WHITE: [char; 14] = [
-    '\u{0}', '\u{8}', '\u{E}', '\u{1C}', '\u{1F}', '\u{84}', '\u{86}', '\u{9F}', '\u{A1}',
-    '\u{180E}', '\u{200B}', '\u{2027}', '\u{3001}', '\u{FEFF}',
-];
 
 /// Without-rowid texts of no, one, two and three parts, and both options.
 fn options() -> Vec<Sample> {

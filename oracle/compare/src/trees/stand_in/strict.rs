@@ -2,13 +2,9 @@
 //! byte, with the byte before.
 
 use crate::faults::{planted, Fault};
-use model::grammar::{CHECK, TEXT, TOKEN};
+use model::grammar::{CHECK, OPERATOR, TABLE_BODY, TEXT, TOKEN};
 use model::record::Record;
 use tokens::encoding::{Refusal, CUT_OFF, NOT_UTF8};
-
-/// The kinds whose texts faults look at.
-const COLUMNS_AND_CONSTRAINTS: u16 = 98;
-const OPERATOR: u16 = 116;
 
 /// What the last byte is inside of.
 #[derive(Clone, Copy, PartialEq)]
@@ -20,11 +16,11 @@ enum Inside {
 }
 
 /// A record, with the kind and index of the one above it and its place among that one's children.
-struct Placed {
-    index: usize,
-    record: Record,
-    above: Option<(u16, usize)>,
-    child: u16,
+pub struct Placed {
+    pub index: usize,
+    pub record: Record,
+    pub above: Option<(u16, usize)>,
+    pub child: u16,
 }
 
 /// The answer with these options, from the one without them.
@@ -68,6 +64,9 @@ fn on(options: u32) -> bool {
     if planted(Fault::OtherBitsTurnItOff) {
         return options == 1;
     }
+    if planted(Fault::EditionIsSwitch) {
+        return on || options & 2 != 0;
+    }
     on && !planted(Fault::SwitchNeverOn)
 }
 
@@ -94,7 +93,7 @@ fn is_looked_at(placed: &Placed) -> bool {
     let is_text = placed.record.kind == TEXT;
     match (above, placed.child) {
         (Some(CHECK), 1) => is_text,
-        (Some(COLUMNS_AND_CONSTRAINTS), 2) => is_text && planted(Fault::RowidLookedAt),
+        (Some(TABLE_BODY), 2) => is_text && planted(Fault::RowidLookedAt),
         (Some(OPERATOR), 0) => is_text && planted(Fault::OperatorLookedAt),
         (_, 0) => placed.record.kind == TOKEN && planted(Fault::ExpressionLookedAt),
         _ => false,
@@ -102,7 +101,7 @@ fn is_looked_at(placed: &Placed) -> bool {
 }
 
 /// So many records of a tree, as far as their numbers of children tell which stands below which.
-fn placed(tree: &[u8], records: usize) -> Vec<Placed> {
+pub fn placed(tree: &[u8], records: usize) -> Vec<Placed> {
     let mut placed = vec![];
     // Each record above the next one, with how many children are still to come.
     let mut above: Vec<(Record, usize, u16)> = vec![];

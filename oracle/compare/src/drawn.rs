@@ -1,17 +1,19 @@
-//! Trees with CHECK sources, good ones and such with faults before a source, at it and behind it.
+//! Trees with texts that a rule is for, CHECK sources or without-rowid texts: good ones, and such with faults before such a text,
+//! at it and behind it.
 
 use model::damage::{damage, Case};
 use model::grammar::{KINDS, LIST, NONE, NUMBER, REPLACE, RUN};
+use model::options::Edition;
 use model::record::{Record, SIZE};
-use model::samples::sample;
-use model::{grow, options, sources};
+use model::samples::{drawn_in, sample};
+use model::{editions, grow, options, sources};
 use tokens::random::Random;
 
 /// Most records of a grown tree, about.
 const GROWN: usize = 60;
 /// Most elements of a LIST.
 const ELEMENTS: usize = 4;
-/// The depths of a chain beside CHECKs.
+/// The depths of a chain beside a table.
 const SHALLOW: usize = 62;
 const DEEP: usize = 66;
 
@@ -22,8 +24,8 @@ const FAULTS: [fn(&mut Record); 4] = [
     |record| record.flags = 1 << 12,
     |record| record.children ^= 1 << 9,
 ];
-/// What makes a source 3, 4 or 5.
-const AT_SOURCE: [fn(&mut Record); 8] = [
+/// What makes a TEXT 3, 4 or 5.
+const AT_TEXT: [fn(&mut Record); 8] = [
     |record| record.mark[0] = 0,
     |record| record.kind = NUMBER,
     |record| record.flags = 1,
@@ -34,28 +36,69 @@ const AT_SOURCE: [fn(&mut Record); 8] = [
     |record| record.length = u32::MAX,
 ];
 
+/// Which texts are looked at, and trees with many of them.
+pub struct Focus {
+    /// The places of such texts in a tree, whatever stands there.
+    pub places: fn(&[u8]) -> Vec<usize>,
+    pub text: fn(&mut Random) -> String,
+    /// A CREATE TABLE, maybe in a Cmd.
+    table: fn(&mut Random) -> Case,
+    /// What may stand beside such a table in a LIST.
+    clause: fn(&mut Random) -> Case,
+    /// Gives the tree of another comparison such texts.
+    exchange: fn(&mut Random, &mut Case),
+}
+
+/// CHECK sources (request vii).
+pub const SOURCES: Focus = Focus {
+    places: sources::places,
+    text: sources::any,
+    table: |random| sources::table(random).into(),
+    clause: |random| sources::check(random).into(),
+    exchange: |random, case| match random.one_in(2) {
+        true => sources::exchange(random, case),
+        false => sources::exchange_all(random, case),
+    },
+};
+
+/// Without-rowid texts, and operator texts with quotes (request viii).
+pub const EDITIONS: Focus = Focus {
+    places: editions::rowids,
+    text: editions::rowid,
+    table: |random| {
+        let stmt = editions::table(random);
+        drawn_in(Edition::Crate, random, &stmt).pair.into()
+    },
+    clause: |random| {
+        let value = editions::value(random);
+        let case = drawn_in(Edition::Crate, random, &*value).pair.into();
+        element(case)
+    },
+    exchange: editions::exchange,
+};
+
 /// A case with any options, and in a few words what it is.
-pub fn drawn(random: &mut Random) -> (&'static str, Case) {
-    let (part, case) = tree(random);
+pub fn drawn(focus: &Focus, random: &mut Random) -> (&'static str, Case) {
+    let (part, case) = tree(focus, random);
     (part, case.with(options::any(random)))
 }
 
 /// The same without options.
-pub fn tree(random: &mut Random) -> (&'static str, Case) {
-    let mut case = with_source(random);
+pub fn tree(focus: &Focus, random: &mut Random) -> (&'static str, Case) {
+    let mut case = with_text(focus, random);
     match random.below(12) {
-        0..=3 => ("good trees", good(random)),
+        0..=3 => ("good trees", good(focus, random)),
         4 => {
-            at_a_source(random, &mut case);
-            ("a fault at a source", case)
+            at_a_text(focus, random, &mut case);
+            ("a fault at such a text", case)
         }
         5 => {
-            inside_a_character(random, &mut case);
-            ("a source that ends inside a character", case)
+            inside_a_character(focus, random, &mut case);
+            ("such a text that ends inside a character", case)
         }
         6 | 7 => {
-            beside_a_source(random, &mut case);
-            ("a fault before or behind a source", case)
+            beside_a_text(focus, random, &mut case);
+            ("a fault before or behind such a text", case)
         }
         8 => {
             let records = random.between(1, case.records());
@@ -66,7 +109,10 @@ pub fn tree(random: &mut Random) -> (&'static str, Case) {
             case.tree.extend(Record::new(NONE, 0).bytes());
             ("records left over", case)
         }
-        10 => ("beside a chain of 62 to 66 records", beside_a_chain(random)),
+        10 => (
+            "beside a chain of 62 to 66 records",
+            beside_a_chain(focus, random),
+        ),
         _ => {
             for _ in 0..random.between(1, 3) {
                 damage(random, &mut case);
@@ -76,28 +122,28 @@ pub fn tree(random: &mut Random) -> (&'static str, Case) {
     }
 }
 
-/// A good tree that has a place for a source at least.
-fn with_source(random: &mut Random) -> Case {
+/// A good tree that has a place for such a text at least.
+fn with_text(focus: &Focus, random: &mut Random) -> Case {
     loop {
-        let case = good(random);
-        if !sources::places(&case.tree).is_empty() {
+        let case = good(focus, random);
+        if !(focus.places)(&case.tree).is_empty() {
             return case;
         }
     }
 }
 
-/// A tree with sources mostly.
-fn good(random: &mut Random) -> Case {
+/// A tree with such texts mostly.
+fn good(focus: &Focus, random: &mut Random) -> Case {
     match random.below(8) {
-        0 => sources::check(random).into(),
-        1..=4 => sources::table(random).into(),
-        5 => listed(random),
-        _ => generated(random),
+        0 => (focus.clause)(random),
+        1..=4 => (focus.table)(random),
+        5 => listed(focus, random),
+        _ => generated(focus, random),
     }
 }
 
-/// From the other comparisons' generators, with other sources, or with what looks like a source in every TEXT.
-fn generated(random: &mut Random) -> Case {
+/// From the other comparisons' generators, with such texts.
+fn generated(focus: &Focus, random: &mut Random) -> Case {
     let mut case = match random.below(3) {
         0 => sample(random).pair.into(),
         1 => {
@@ -111,19 +157,16 @@ fn generated(random: &mut Random) -> Case {
             Case::from(grow::tree(random, records))
         }
     };
-    match random.one_in(2) {
-        true => sources::exchange(random, &mut case),
-        false => sources::exchange_all(random, &mut case),
-    }
+    (focus.exchange)(random, &mut case);
     case
 }
 
-/// Tables, CHECKs and RUNs in a LIST.
-fn listed(random: &mut Random) -> Case {
+/// Tables, clauses and RUNs in a LIST.
+fn listed(focus: &Focus, random: &mut Random) -> Case {
     let count = random.between(1, ELEMENTS);
     let elements = (0..count).map(|_| match random.below(3) {
-        0 => sources::check(random).into(),
-        1 => element(sources::table(random).into()),
+        0 => (focus.clause)(random),
+        1 => element((focus.table)(random)),
         _ => Case::from((Record::new(RUN, 0).bytes().to_vec(), vec![])),
     });
     let elements: Vec<Case> = elements.collect();
@@ -159,9 +202,9 @@ fn joined(cases: &[Case]) -> Case {
     whole
 }
 
-/// A table before a chain of records, or behind it: the only way to have 6 beside a source, which is never deep itself.
-fn beside_a_chain(random: &mut Random) -> Case {
-    let table = element(sources::table(random).into());
+/// A table before a chain of records, or behind it: the only way to have 6 beside such a text, which is never deep itself.
+fn beside_a_chain(focus: &Focus, random: &mut Random) -> Case {
+    let table = element((focus.table)(random));
     let depth = random.between(SHALLOW, DEEP);
     let chain = chain(depth - 1);
     match random.one_in(2) {
@@ -186,28 +229,28 @@ fn chain(depth: usize) -> Case {
     model::fixed::of(&records, &[])
 }
 
-/// One of the tree's sources.
-fn a_source(random: &mut Random, case: &Case) -> usize {
-    random.pick(&sources::places(&case.tree))
+/// The place of one such text of the tree.
+fn a_text(focus: &Focus, random: &mut Random, case: &Case) -> usize {
+    random.pick(&(focus.places)(&case.tree))
 }
 
-fn at_a_source(random: &mut Random, case: &mut Case) {
-    let place = a_source(random, case);
-    sources::put(case, place, &sources::any(random));
-    case.edit(place, random.pick(&AT_SOURCE));
+fn at_a_text(focus: &Focus, random: &mut Random, case: &mut Case) {
+    let place = a_text(focus, random, case);
+    sources::put(case, place, &(focus.text)(random));
+    case.edit(place, random.pick(&AT_TEXT));
 }
 
 /// The last character is a wide one, and the part is a byte short of it.
-fn inside_a_character(random: &mut Random, case: &mut Case) {
-    let place = a_source(random, case);
-    let source = sources::any(random) + random.pick(&["\u{E9}", "\u{20AC}"]);
-    sources::put(case, place, &source);
+fn inside_a_character(focus: &Focus, random: &mut Random, case: &mut Case) {
+    let place = a_text(focus, random, case);
+    let text = (focus.text)(random) + random.pick(&["\u{E9}", "\u{20AC}"]);
+    sources::put(case, place, &text);
     case.edit(place, |record| record.length -= 1);
 }
 
-/// At the record before a source or behind it, or at any record.
-fn beside_a_source(random: &mut Random, case: &mut Case) {
-    let place = a_source(random, case);
+/// At the record before such a text or behind it, or at any record.
+fn beside_a_text(focus: &Focus, random: &mut Random, case: &mut Case) {
+    let place = a_text(focus, random, case);
     let last = case.records() - 1;
     let any = random.between(0, last);
     let at = random.pick(&[place - 1, (place + 1).min(last), any]);
