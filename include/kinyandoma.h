@@ -26,10 +26,11 @@
  *                                                                                       append: bytes this token adds
  *   9       with KINYANDOMA_STRICT: the source of a CHECK ends inside a block           record of the source
  *           comment or inside a quote
+ *   10      with KINYANDOMA_SQLITE: a without-rowid text is not WITHOUT and ROWID      record of the text
  *   12      the text or value is cut off: it ends in the middle of a character          first byte of that character
  *
- * The first that fits is answered. For a tree: 1, 2 or 12, then the records by index, and at each 3, 4, 5, 9, 6; then 7;
- * then 8. For append: 1, 4, 2 or 12, 8. A place never exceeds 32 bits.
+ * The first that fits is answered. For a tree: 1, 2 or 12, then the records by index, and at each 3, 4, 5, 9, 10, 6; then
+ * 7; then 8. For append: 1, 4, 2 or 12, 8. A place never exceeds 32 bits.
  *
  * Of a text that is not UTF-8, 12 says that more bytes could have made it UTF-8 and 2 that none could: the bytes from
  * the place to the end are the beginning of some character, or they are not. E2 82 at the end is 12; F0 80, ED A0 and C0
@@ -63,6 +64,12 @@ uint64_t kinyandoma_render(const uint8_t *tree, size_t tree_len, const uint8_t *
  * comment, and each of ' " ` a quote. A block comment ends at the first star and slash behind the two bytes that began it, a
  * line comment at a newline (0A), a quote at the next one like it. */
 #define KINYANDOMA_STRICT 1u
+
+/* Write the SQLite edition, for tools that are SQLite, instead of the crate's edition. It differs in three things. A comma
+ * stands between the two options of a table (98) where both are TEXTs. Each ' inside the text of an operator clause (116) is
+ * doubled. A without-rowid text of a table is refused, with 10, unless it has just two parts, WITHOUT and ROWID, each letter
+ * in either case; parts are what stands between white space, as in the crate's edition. */
+#define KINYANDOMA_SQLITE 2u
 
 /* As kinyandoma_measure, with options. */
 uint64_t kinyandoma_measure_with(uint32_t options, const uint8_t *tree, size_t tree_len, const uint8_t *text,

@@ -1,7 +1,7 @@
 /* Calls the functions of libkinyandoma.a on good and bad input, as a C program does.
  *
  * What is expected is document 01's: section 6 for the cases, section 3 for the numbers and places; 12 is document 02's,
- * request ii, 9 its request vii, and line and column are its request ix. Around every lent part stand known bytes, which must
+ * request ii, 9 its request vii, 10 its request viii, and line and column are its request ix. Around every lent part stand known bytes, which must
  * stay. One line a case, and `N passed, M failed` at the end. */
 #include "kinyandoma.h"
 
@@ -311,7 +311,7 @@ static const tree_case TREES[] = {
 
 /* Measure and render both refuse, without options and with any, and nothing is written. */
 static void refused_tree(const tree_case *c) {
-    static const uint32_t options[] = {0, KINYANDOMA_STRICT, ~0u};
+    static const uint32_t options[] = {0, KINYANDOMA_STRICT, KINYANDOMA_SQLITE, ~0u};
     lent out;
     prepare(&out);
     uint64_t expected = answer(c->number, c->place);
@@ -362,7 +362,8 @@ static void written_tree(const char *name, const uint8_t *tree, size_t tree_leng
     const uint8_t *bytes = (const uint8_t *)text;
     const written_case without = {0, tree, tree_length, bytes, strlen(text), expected};
     const written_case with = {KINYANDOMA_STRICT, tree, tree_length, bytes, strlen(text), expected};
-    int done = is_written(&without) && is_written(&with);
+    const written_case sqlite = {KINYANDOMA_SQLITE, tree, tree_length, bytes, strlen(text), expected};
+    int done = is_written(&without) && is_written(&with) && is_written(&sqlite);
     done &= kinyandoma_measure(tree, tree_length, bytes, strlen(text)) == answer(0, (uint32_t)length);
     for (size_t at = 0; at < sizeof rooms / sizeof rooms[0]; at++) {
         lent out;
@@ -409,9 +410,9 @@ static const source_case SOURCES[] = {
     {"source: a line comment in a quote", "'--\n", "CHECK ('--\n \n)", 1},
 };
 
-/* The source of a Check, with the switch off and on, each alone and with bits that mean nothing. */
+/* The source of a Check, with the switch off and on, each alone, with the other option and with bits that mean nothing. */
 static void source(const source_case *c) {
-    static const uint32_t bits[] = {0, 1u << 8, 1u << 31, ~1u};
+    static const uint32_t bits[] = {0, KINYANDOMA_SQLITE, 1u << 8, 1u << 31, ~KINYANDOMA_STRICT};
     const uint8_t tree[] = {CHECK_OF((uint8_t)strlen(c->source))};
     const uint8_t *text = (const uint8_t *)c->source;
     int done = 1;
@@ -460,6 +461,129 @@ static void strict_tree(const tree_case *c) {
     uint64_t measured =
         kinyandoma_measure_with(KINYANDOMA_STRICT, c->tree, c->tree_length, c->text, c->text_length);
     tell(c->name, measured == answer(c->number, c->place));
+}
+
+/* ---- The SQLite edition: document 02, request viii */
+
+/* The body of a table (98) with its first option in the first bytes of the text, and what stands for its second. */
+#define BODY_OF(length) \
+    0x53, 0x4E, 0x62, 0, 0, 0, 4, 0, 0, 0, 0, 0, 0, 0, 0, 0, 0x53, 0x4E, 0x01, 0, 0, 0, 0, 0, 0, 0, 0, 0, 0, 0, 0, 0, \
+        0x53, 0x4E, 0x01, 0, 0, 0, 0, 0, 0, 0, 0, 0, 0, 0, 0, 0, 0x53, 0x4E, 0x04, 0, 0, 0, 0, 0, 0, 0, 0, 0, length, 0, \
+        0, 0
+#define NOTHING 0x53, 0x4E, 0x00, 0, 0, 0, 0, 0, 0, 0, 0, 0, 0, 0, 0, 0
+#define TEXT_OF(start, length) 0x53, 0x4E, 0x04, 0, 0, 0, 0, 0, start, 0, 0, 0, length, 0, 0, 0
+/* An operator clause (116) whose text is the first bytes, with no function. */
+#define OPERATOR_OF(length) \
+    0x53, 0x4E, 0x74, 0, 0, 0, 2, 0, 0, 0, 0, 0, 0, 0, 0, 0, TEXT_OF(0, length), NOTHING
+
+typedef struct {
+    const char *name;
+    const char *text;
+    const char *written;    /* in the crate's edition */
+    const char *for_sqlite; /* in the SQLite edition; none if it is refused with 10 */
+} edition_case;
+
+/* Bits beside the edition. */
+static const uint32_t BESIDE[] = {0, KINYANDOMA_STRICT, 1u << 2, 1u << 31, ~KINYANDOMA_SQLITE};
+
+/* A tree in both editions; a refusal has place 3. */
+static int in_both(const edition_case *c, const uint8_t *tree, size_t length) {
+    const uint8_t *text = (const uint8_t *)c->text;
+    int done = 1;
+    for (size_t at = 0; at < sizeof BESIDE / sizeof BESIDE[0]; at++) {
+        uint32_t sqlite = BESIDE[at] | KINYANDOMA_SQLITE;
+        const written_case off = {BESIDE[at], tree, length, text, strlen(c->text), c->written};
+        const written_case on = {sqlite, tree, length, text, strlen(c->text), c->for_sqlite};
+        lent out;
+        prepare(&out);
+        done &= is_written(&off);
+        if (c->for_sqlite) {
+            done &= is_written(&on);
+            continue;
+        }
+        done &= kinyandoma_measure_with(sqlite, tree, length, text, strlen(c->text)) == answer(10, 3);
+        done &= kinyandoma_render_with(sqlite, tree, length, text, strlen(c->text), out.bytes + GUARD, ROOM) ==
+                answer(10, 3);
+        done &= holds(&out, "", 0);
+    }
+    return done;
+}
+
+/* Without-rowid texts. */
+static const edition_case ROWIDS[] = {
+    {"rowid: as it is", "WITHOUT ROWID", "() WITHOUT ROWID", "() WITHOUT ROWID"},
+    {"rowid: in any case, the second word as typed", "wItHoUt rOwId", "() WITHOUT rOwId", "() WITHOUT rOwId"},
+    {"rowid: two spaces", "without  rowid", "() WITHOUT rowid", "() WITHOUT rowid"},
+    {"rowid: any white space", "\t without\xC2\xA0rowid\xE3\x80\x80", "() WITHOUT rowid", "() WITHOUT rowid"},
+    {"rowid: no white space", "WITHOUT\xE2\x80\x8BROWID", "()", NULL},
+    {"rowid: empty is 10", "", "()", NULL},
+    {"rowid: blank is 10", " ", "()", NULL},
+    {"rowid: one part is 10", "WITHOUT", "()", NULL},
+    {"rowid: three parts are 10", "WITHOUT ROWID x", "()", NULL},
+    {"rowid: another first part is 10", "WITHOU ROWID", "() WITHOUT ROWID", NULL},
+    {"rowid: another second part is 10", "WITHOUT ROWIDS", "() WITHOUT ROWIDS", NULL},
+    {"rowid: the other order is 10", "ROWID WITHOUT", "() WITHOUT WITHOUT", NULL},
+    {"rowid: a dotless i is 10", "w\xC4\xB1thout rowid", "() WITHOUT rowid", NULL},
+};
+
+/* Operator texts. */
+static const edition_case OPERATORS[] = {
+    {"operator: no quote", "+", "OPERATOR '+'", "OPERATOR '+'"},
+    {"operator: empty", "", "OPERATOR ''", "OPERATOR ''"},
+    {"operator: a quote", "'", "OPERATOR '''", "OPERATOR ''''"},
+    {"operator: a quote inside", "it's", "OPERATOR 'it's'", "OPERATOR 'it''s'"},
+    {"operator: two quotes", "''", "OPERATOR ''''", "OPERATOR ''''''"},
+    {"operator: other quotes", "\"`", "OPERATOR '\"`'", "OPERATOR '\"`'"},
+};
+
+/* The text `without rowidstrict`, whose two parts are the options. */
+static const char BOTH[] = "without rowidstrict";
+static const uint8_t NO_OPTION[] = {0x53, 0x4E, 0x62, 0, 0, 0, 4, 0, 0, 0, 0, 0, 0, 0, 0, 0, 0x53, 0x4E, 0x01, 0,
+                                    0,    0,    0,    0, 0, 0, 0, 0, 0, 0, 0, 0, 0x53, 0x4E, 0x01, 0, 0, 0, 0, 0,
+                                    0,    0,    0,    0, 0, 0, 0, 0, NOTHING, NOTHING};
+static const uint8_t BOTH_OPTIONS[] = {BODY_OF(13), TEXT_OF(13, 6)};
+static const uint8_t SECOND_EMPTY[] = {BODY_OF(13), TEXT_OF(0, 0)};
+static const uint8_t TWO_BODIES[] = {LIST_OF_TWO, BODY_OF(13), NOTHING, BODY_OF(7), NOTHING};
+static const uint8_t CHECK_AND_BODY[] = {LIST_OF_TWO, CHECK_OF(1), BODY_OF(1), NOTHING};
+static const uint8_t BODY_AND_CHECK[] = {LIST_OF_TWO, BODY_OF(1), NOTHING, CHECK_OF(1)};
+static const uint8_t BODY_OF_TWO[] = {BODY_OF(2), NOTHING};
+static const uint8_t BODY_BEFORE_MARK[] = {LIST_OF_TWO, BODY_OF(2), NOTHING, WRONG_MARK_DROP};
+
+/* Which refusal comes first, with both bits set. */
+static const tree_case BOTH_BITS[] = {
+    {"edition: the first such text is the place", TWO_BODIES, sizeof TWO_BODIES, BYTES(BOTH), 10, 9},
+    {"edition: 9 of an earlier record comes before 10", CHECK_AND_BODY, sizeof CHECK_AND_BODY, BYTES("'"), 9, 3},
+    {"edition: 10 of an earlier record comes before 9", BODY_AND_CHECK, sizeof BODY_AND_CHECK, BYTES("'"), 10, 4},
+    {"edition: 5 comes before 10 at a record", BODY_OF_TWO, sizeof BODY_OF_TWO, BYTES("a"), 5, 3},
+    {"edition: 10 comes before 3 of a later record", BODY_BEFORE_MARK, sizeof BODY_BEFORE_MARK, BYTES("aa"), 10, 4},
+    {"edition: 10 comes before 7", BODY_BEFORE_MARK, 5 * 16, BYTES("aa"), 10, 4},
+    {"edition: 2 comes before 10", BODY_OF_TWO, sizeof BODY_OF_TWO, BYTES("aa\xFF"), 2, 2},
+    {"edition: 12 comes before 10", BODY_OF_TWO, sizeof BODY_OF_TWO, BYTES("aa\xC3"), 12, 2},
+};
+
+static void editions(void) {
+    static const edition_case none = {"options: none", "", "()", "()"};
+    static const edition_case both = {"options: a comma between both", BOTH, "() WITHOUT rowid strict",
+                                      "() WITHOUT rowid, strict"};
+    static const edition_case empty = {"options: a comma before an empty one", BOTH, "() WITHOUT rowid ",
+                                       "() WITHOUT rowid, "};
+    for (size_t at = 0; at < sizeof ROWIDS / sizeof ROWIDS[0]; at++) {
+        const uint8_t tree[] = {BODY_OF((uint8_t)strlen(ROWIDS[at].text)), NOTHING};
+        tell(ROWIDS[at].name, in_both(&ROWIDS[at], tree, sizeof tree));
+    }
+    for (size_t at = 0; at < sizeof OPERATORS / sizeof OPERATORS[0]; at++) {
+        const uint8_t tree[] = {OPERATOR_OF((uint8_t)strlen(OPERATORS[at].text))};
+        tell(OPERATORS[at].name, in_both(&OPERATORS[at], tree, sizeof tree));
+    }
+    tell(none.name, in_both(&none, NO_OPTION, sizeof NO_OPTION));
+    tell(both.name, in_both(&both, BOTH_OPTIONS, sizeof BOTH_OPTIONS));
+    tell(empty.name, in_both(&empty, SECOND_EMPTY, sizeof SECOND_EMPTY));
+    for (size_t at = 0; at < sizeof BOTH_BITS / sizeof BOTH_BITS[0]; at++) {
+        const tree_case *c = &BOTH_BITS[at];
+        uint32_t options = KINYANDOMA_STRICT | KINYANDOMA_SQLITE;
+        uint64_t measured = kinyandoma_measure_with(options, c->tree, c->tree_length, c->text, c->text_length);
+        tell(c->name, measured == answer(c->number, c->place));
+    }
 }
 
 /* One record with no part, flags or number. */
@@ -528,6 +652,7 @@ int main(void) {
     for (size_t at = 0; at < sizeof STRICT / sizeof STRICT[0]; at++) {
         strict_tree(&STRICT[at]);
     }
+    editions();
     printf("%d passed, %d failed\n", passed, failed);
     return failed != 0;
 }

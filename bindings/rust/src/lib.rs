@@ -20,8 +20,8 @@
 //! ```
 //!
 //! A host that has tokens already writes them with a [`Stream`]. What a call refuses comes back as a [`Refusal`], with
-//! number and place; nothing is written then. [`Options`] let a caller have more refused, by the calls whose names end
-//! in `_with`.
+//! number and place; nothing is written then. [`Options`] let a caller have more refused, or have the text written as SQLite
+//! reads it, by the calls whose names end in `_with`.
 
 #![warn(missing_docs)]
 #![forbid(unsafe_op_in_unsafe_fn)]

@@ -35,7 +35,7 @@ pub const MOST_BYTES: usize = 65_536;
 #[derive(Clone, Copy, Debug, PartialEq, Eq)]
 #[non_exhaustive]
 pub struct Refusal {
-    /// 1 to 9 or 12, as include/kinyandoma.h lists them.
+    /// 1 to 10 or 12, as include/kinyandoma.h lists them.
     pub number: u32,
     /// A record's index, a byte of the text, or the length that is needed: the reason tells which.
     pub place: usize,
@@ -76,6 +76,9 @@ pub enum Reason {
     /// 9, with [`Options::strict`](crate::Options::strict): the CHECK source that the record at the place names ends inside
     /// a block comment or inside a quote.
     OpenSource,
+    /// 10, with [`Options::sqlite`](crate::Options::sqlite): the without-rowid text that the record at the place names is not
+    /// WITHOUT and ROWID.
+    WithoutRowid,
 }
 
 /// Which sort of call was made: the numbers 1 and 4 mean something else in an append.
@@ -113,6 +116,7 @@ fn reason(asked: Asked, number: u32, place: usize) -> Reason {
         (7, _) => Reason::RecordCount,
         (8, _) => Reason::NoRoom,
         (9, _) => Reason::OpenSource,
+        (10, _) => Reason::WithoutRowid,
         (12, _) => Reason::CutOff,
         (number, _) => {
             panic!("libkinyandoma.a answers {number}: it is not the library of this crate")
@@ -178,6 +182,10 @@ impl Reason {
             Reason::OpenSource => (
                 "the CHECK source of record {place} ends inside a block comment or a quote",
                 "close it: it would swallow the bracket behind it",
+            ),
+            Reason::WithoutRowid => (
+                "the without-rowid text of record {place} is not the two words WITHOUT and ROWID",
+                "write these two, or NONE: SQLite reads nothing else there",
             ),
         }
     }

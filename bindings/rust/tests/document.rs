@@ -1,5 +1,5 @@
 //! The cases of document 01, section 6, the refusals of section 3 that a caller of this crate can meet, and of document 02
-//! line and column, request ix, and CHECK sources that are left open, request vii.
+//! line and column, request ix, CHECK sources that are left open, request vii, and the SQLite edition, request viii.
 
 use kinyandoma::{
     measure, measure_with, render, render_to_string, render_to_string_with, render_with, Kind,
@@ -222,19 +222,120 @@ fn a_whole_source_is_written_with_the_switch_on() {
     }
 }
 
-/// Bits that mean nothing neither turn the switch on nor off.
+/// The body of a table with these two options.
+fn body(first: Option<&str>, second: Option<&str>) -> (Vec<u8>, Vec<u8>) {
+    let body = Node::new(Kind::ColumnsAndConstraints)
+        .empty_list()
+        .empty_list();
+    let with = |body: Node, option: Option<&str>| match option {
+        Some(text) => body.text(text),
+        None => body.none(),
+    };
+    with(with(body, first), second).finish().unwrap()
+}
+
+/// An operator clause with this text.
+fn operator(op: &str) -> (Vec<u8>, Vec<u8>) {
+    let clause = Node::new(Kind::OperatorClause).text(op).text("f'");
+    clause.finish().unwrap()
+}
+
+/// Request viii: a comma where both options are there, an empty one too.
+#[test]
+fn the_sqlite_edition_has_a_comma_between_the_options() {
+    let sqlite = Options::new().sqlite(true);
+    let rowid = Some("without \u{A0} RowId");
+    for (first, second, plain, for_sqlite) in [
+        (None, None, "()", "()"),
+        (rowid, None, "() WITHOUT RowId", "() WITHOUT RowId"),
+        (None, Some("STRICT"), "() STRICT", "() STRICT"),
+        (
+            rowid,
+            Some("STRICT"),
+            "() WITHOUT RowId STRICT",
+            "() WITHOUT RowId, STRICT",
+        ),
+        (rowid, Some(""), "() WITHOUT RowId ", "() WITHOUT RowId, "),
+    ] {
+        let (tree, text) = body(first, second);
+        assert_eq!(render_to_string(&tree, &text).as_deref(), Ok(plain));
+        let written = render_to_string_with(sqlite, &tree, &text);
+        assert_eq!(written.as_deref(), Ok(for_sqlite));
+        assert_eq!(measure_with(sqlite, &tree, &text), Ok(for_sqlite.len()));
+        let written = render_to_string_with(sqlite.sqlite(false), &tree, &text);
+        assert_eq!(written.as_deref(), Ok(plain));
+    }
+}
+
+#[test]
+fn the_sqlite_edition_doubles_quotes_in_an_operator() {
+    let sqlite = Options::new().sqlite(true);
+    for (op, plain, for_sqlite) in [
+        ("+", "OPERATOR '+' f'", "OPERATOR '+' f'"),
+        ("'", "OPERATOR ''' f'", "OPERATOR '''' f'"),
+        ("it's", "OPERATOR 'it's' f'", "OPERATOR 'it''s' f'"),
+        ("''", "OPERATOR '''' f'", "OPERATOR '''''' f'"),
+        ("\"`", "OPERATOR '\"`' f'", "OPERATOR '\"`' f'"),
+    ] {
+        let (tree, text) = operator(op);
+        assert_eq!(render_to_string(&tree, &text).as_deref(), Ok(plain));
+        let written = render_to_string_with(sqlite, &tree, &text);
+        assert_eq!(written.as_deref(), Ok(for_sqlite));
+    }
+}
+
+#[test]
+fn another_without_rowid_text_is_10_in_the_sqlite_edition() {
+    let sqlite = Options::new().sqlite(true);
+    for text in [
+        "",
+        " ",
+        "WITHOUT",
+        "ROWID",
+        "a b",
+        "WITHOUT ROWID x",
+        "ROWID WITHOUT",
+        "w\u{131}thout rowid",
+    ] {
+        let (tree, text) = body(Some(text), None);
+        let mut out = [0; 32];
+        let refusal = render_with(sqlite, &tree, &text, &mut out).unwrap_err();
+        assert_eq!(out, [0; 32]);
+        assert_eq!(measure_with(sqlite, &tree, &text), Err(refusal));
+        assert_eq!((refusal.number, refusal.place), (10, 3));
+        assert_eq!(refusal.reason, Reason::WithoutRowid);
+        assert!(measure(&tree, &text).is_ok());
+    }
+    let (tree, text) = body(Some("a b"), None);
+    let told = measure_with(sqlite, &tree, &text).unwrap_err().to_string();
+    let expected = "refused with 10, place 3: the without-rowid text of record 3 is not the two words WITHOUT and ROWID; \
+                    write these two, or NONE: SQLite reads nothing else there";
+    assert_eq!(told, expected);
+}
+
+/// Bits that mean nothing neither turn a switch on nor off, nor does one switch turn the other.
 #[test]
 fn other_bits_are_ignored() {
     let (tree, text) = check("'");
-    for bits in [1 << 8, 1 << 31, u32::MAX - 1] {
+    let (other_tree, other_text) = body(Some("a b"), None);
+    for bits in [0, 1 << 2, 1 << 8, 1 << 31, u32::MAX - 3] {
         let off = Options::from_bits(bits);
-        assert_eq!(measure_with(off, &tree, &text), measure(&tree, &text));
-        let on = off.strict(true);
-        assert_eq!(on.bits(), bits | 1);
-        assert_eq!(measure_with(on, &tree, &text).unwrap_err().number, 9);
+        for strict in [false, true] {
+            for sqlite in [false, true] {
+                let on = off.strict(strict).sqlite(sqlite);
+                assert_eq!(on.bits(), bits | u32::from(strict) | u32::from(sqlite) << 1);
+                assert_eq!((on.is_strict(), on.is_sqlite()), (strict, sqlite));
+                let number = |refusal: kinyandoma::Refusal| refusal.number;
+                let source = measure_with(on, &tree, &text).map_err(number);
+                assert_eq!(source.err(), strict.then_some(9));
+                let rowid = measure_with(on, &other_tree, &other_text).map_err(number);
+                assert_eq!(rowid.err(), sqlite.then_some(10));
+            }
+        }
     }
     assert_eq!(Options::new().bits(), 0);
     assert_eq!(Options::new().strict(true).bits(), 1);
+    assert_eq!(Options::new().sqlite(true).bits(), 2);
 }
 
 /// A FROM clause in brackets, `depth` records deep.

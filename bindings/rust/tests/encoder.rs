@@ -4,8 +4,8 @@ mod common;
 
 use common::{hex, trees};
 use kinyandoma::{
-    id, list, measure, render_to_string, render_to_vec, text, EncodeError, Flag, Kind, Node, Part,
-    Run, EXPLAIN, MOST_BYTES, MOST_RECORDS, NOT_MATERIALIZED,
+    id, list, measure, measure_with, render_to_string, render_to_vec_with, text, EncodeError, Flag,
+    Kind, Node, Part, Run, EXPLAIN, MOST_BYTES, MOST_RECORDS, NOT_MATERIALIZED,
 };
 
 fn written(part: impl Into<Part>) -> String {
@@ -79,7 +79,7 @@ fn long(record: &[u8], at: usize) -> usize {
 fn stored_trees_built_again_write_the_same() {
     let mut built = 0;
     for stored in trees("replay_text") {
-        if measure(&stored.tree, &stored.text).is_err() {
+        if measure_with(stored.options, &stored.tree, &stored.text).is_err() {
             continue;
         }
         let text = std::str::from_utf8(&stored.text).unwrap();
@@ -87,12 +87,12 @@ fn stored_trees_built_again_write_the_same() {
         let part = Reader { tree, text }.part();
         let (tree, text) = part.finish().expect("a tree that was stored");
         assert_eq!(tree.len(), stored.tree.len());
-        let bytes = render_to_vec(&tree, &text).unwrap();
+        let bytes = render_to_vec_with(stored.options, &tree, &text).unwrap();
         let line = format!("0 {} {}", bytes.len(), hex(&bytes));
         assert_eq!(line, stored.expected);
         built += 1;
     }
-    assert_eq!(built, 815);
+    assert_eq!(built, 903);
 }
 
 #[test]

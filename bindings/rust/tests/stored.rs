@@ -2,10 +2,10 @@
 
 mod common;
 
-use common::{hex, streams, trees, trees_with_options, Stored, Tokens};
+use common::{hex, streams, trees, Stored, Tokens};
 use kinyandoma::{
-    measure, measure_with, render, render_to_string, render_to_vec, render_to_vec_with, Options,
-    Refusal, Stream,
+    measure, measure_with, render_to_string_with, render_to_vec, render_to_vec_with, render_with,
+    Options, Refusal, Stream,
 };
 use std::str::from_utf8;
 
@@ -24,7 +24,7 @@ fn refused(refusal: Refusal) -> String {
 
 /// The line that the calls make of a tree: `0 LENGTH HEXTEXT` or `NUMBER PLACE`.
 fn line(stored: &Stored) -> String {
-    match render_to_vec(&stored.tree, &stored.text) {
+    match render_to_vec_with(stored.options, &stored.tree, &stored.text) {
         Ok(bytes) => format!("0 {} {}", bytes.len(), hex(&bytes)),
         Err(refusal) => refused(refusal),
     }
@@ -34,7 +34,7 @@ fn line(stored: &Stored) -> String {
 fn trees_are_written_as_stored() {
     let stored = trees("replay_text");
     let written = stored.iter().filter(|tree| line(tree).starts_with("0 "));
-    assert_eq!((stored.len(), written.count()), (946, 815));
+    assert_eq!((stored.len(), written.count()), (1049, 903));
     for tree in &stored {
         assert_eq!(line(tree), tree.expected, "tree {}", hex(&tree.tree));
     }
@@ -43,16 +43,18 @@ fn trees_are_written_as_stored() {
 #[test]
 fn render_keeps_to_its_room() {
     for tree in trees("replay_text") {
-        let Ok(length) = measure(&tree.tree, &tree.text) else {
+        let Ok(length) = measure_with(tree.options, &tree.tree, &tree.text) else {
             continue;
         };
         let mut out = vec![BEFORE; length + 3];
-        assert_eq!(render(&tree.tree, &tree.text, &mut out), Ok(length));
+        let written = render_with(tree.options, &tree.tree, &tree.text, &mut out);
+        assert_eq!(written, Ok(length));
         assert_eq!(format!("0 {length} {}", hex(&out[..length])), tree.expected);
         assert_eq!(out[length..], [BEFORE; 3]);
         if length > 0 {
             let mut out = vec![BEFORE; length - 1];
-            let refusal = render(&tree.tree, &tree.text, &mut out).unwrap_err();
+            let refusal = render_with(tree.options, &tree.tree, &tree.text, &mut out);
+            let refusal = refusal.unwrap_err();
             assert_eq!((refusal.number, refusal.place), (8, length));
             assert!(out.iter().all(|&byte| byte == BEFORE));
         }
@@ -61,14 +63,13 @@ fn render_keeps_to_its_room() {
 
 #[test]
 fn trees_are_refused_as_stored() {
-    let stored = trees_with_options("replay_trees");
-    assert_eq!(stored.len(), 1182);
+    let stored = trees("replay_trees");
+    assert_eq!(stored.len(), 1293);
     for tree in &stored {
-        let options = Options::from_bits(tree.options);
-        let measured = measure_with(options, &tree.tree, &tree.text);
-        let written = render_to_vec_with(options, &tree.tree, &tree.text);
+        let measured = measure_with(tree.options, &tree.tree, &tree.text);
+        let written = render_to_vec_with(tree.options, &tree.tree, &tree.text);
         assert_eq!(measured, written.map(|text| text.len()));
-        if !options.is_strict() {
+        if asks_for_nothing(tree.options) {
             assert_eq!(measured, measure(&tree.tree, &tree.text));
         }
         let answer = match measured {
@@ -79,10 +80,25 @@ fn trees_are_refused_as_stored() {
     }
 }
 
+fn asks_for_nothing(options: Options) -> bool {
+    !options.is_strict() && !options.is_sqlite()
+}
+
+#[test]
+fn the_calls_without_options_write_the_crates_edition() {
+    for tree in trees("replay_text") {
+        if asks_for_nothing(tree.options) {
+            let written = render_to_vec(&tree.tree, &tree.text);
+            let with = render_to_vec_with(tree.options, &tree.tree, &tree.text);
+            assert_eq!(written, with);
+        }
+    }
+}
+
 #[test]
 fn every_text_is_a_string() {
     for tree in trees("replay_text") {
-        if let Ok(text) = render_to_string(&tree.tree, &tree.text) {
+        if let Ok(text) = render_to_string_with(tree.options, &tree.tree, &tree.text) {
             let expected = format!("0 {} {}", text.len(), hex(text.as_bytes()));
             assert_eq!(expected, tree.expected);
         }

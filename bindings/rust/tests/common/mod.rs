@@ -2,6 +2,7 @@
 
 #![allow(dead_code)]
 
+use kinyandoma::Options;
 use std::fs;
 use std::path::PathBuf;
 
@@ -19,28 +20,19 @@ pub fn lines(path: &str) -> Vec<String> {
 
 /// A stored tree with its text and the options of the call, and the line that is expected for it.
 pub struct Stored {
-    pub options: u32,
+    pub options: Options,
     pub tree: Vec<u8>,
     pub text: Vec<u8>,
     pub expected: String,
 }
 
-/// The trees of a replaying program whose cases have no options.
+/// The trees of a replaying program.
 pub fn trees(program: &str) -> Vec<Stored> {
-    stored(program, |_| 0)
-}
-
-/// The trees of a replaying program whose cases begin with their options.
-pub fn trees_with_options(program: &str) -> Vec<Stored> {
-    stored(program, |rest| rest.word())
-}
-
-fn stored(program: &str, options: fn(&mut Rest) -> u32) -> Vec<Stored> {
     let input = file(&format!("crates/{program}/stdin"));
     let mut rest = Rest(&input);
     let stored = lines(&format!("crates/{program}/stdout")).into_iter();
     let stored = stored.map(|expected| {
-        let options = options(&mut rest);
+        let options = Options::from_bits(rest.word());
         let (tree, text) = (rest.length(), rest.length());
         let (tree, text) = (rest.take(tree).to_vec(), rest.take(text).to_vec());
         Stored {
