@@ -6,3 +6,4 @@ pub mod Reads
 pub mod Solved
 pub mod Admitted
 pub mod Editions
+pub mod Named

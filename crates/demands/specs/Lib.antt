@@ -2,3 +2,4 @@ pub mod Lends
 pub mod Demands
 pub mod Halves
 pub mod Between
+pub mod Named
