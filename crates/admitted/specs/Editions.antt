@@ -14,7 +14,6 @@ use Rattle.laws.specs.Little.{little}
 use Rattle.laws.specs.Text.{ascii}
 use Rattle.laws.specs.Tests.{and-parts}
 use Rattle.spelling.specs.Token.{TK-COMMA}
-use Rattle.mode.specs.declared.Edition.{Edition}
 use Rattle.mode.specs.declared.Edition.the-variants.{Crate, Sqlite}
 use Rattle.stream.specs.Stream as stream
 use Rattle.stream.specs.Stream.{Token}

@@ -15,7 +15,7 @@ use Rattle.spelling.specs.Token.{TK-LP, TK-RP}
 use Rattle.record.specs.declared.Record.{Record}
 use Rattle.grammar.specs.Kind.{NONE, LIST, TOKEN, RUN, REPLACE}
 use Rattle.grammar.specs.Shape.{Class, one, list, checkSource, ruled, Shape, nothing, token, ident, word, said, line, when, is, slot, each, commas, row, lines, tuples, given, filled, replacing, decimal, brackets, quoted, rowid, source, both, later, _·_}
-use Rattle.grammar.specs.Grammar.{run, text, maybe, root, rootKinds, shape}
+use Rattle.grammar.specs.Grammar.{run, root, rootKinds, shape}
 use Rattle.grammar.specs.Slots.{slotsOf, allowed, elements}
 use Rattle.grammar.specs.Laws.{sameAll, same-all}
 use Rattle.tree.specs.Check.{Place, place, holds, fits}

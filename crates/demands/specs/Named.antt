@@ -6,7 +6,7 @@ use native.Mathlib.Omega.{arith}
 use mathlib.Core.Path.{_≡_, refl, _∙_, ap, ap₂, sym}
 use mathlib.Core.List.{List, [], _∷_, _++_}
 use mathlib.Core.Bool.{Bool, true, false, not, cond, false≢true}
-use lib.Dec.{eqb, ltb, leb→le}
+use lib.Dec.{eqb, leb→le}
 use lib.ListN.{length}
 use borrow.Author.Tests.{eqb-true, eqb-false}
 use Rattle.laws.specs.First.{first}
@@ -30,10 +30,10 @@ use Rattle.grammar.specs.Grammar.{shape}
 use Rattle.grammar.specs.Slots.{allowed}
 use Rattle.tokens.specs.Tokens.{behind, tokenOf, rows, placed, means, node, whole, tokensOf, textOf}
 use Rattle.tree.specs.Check as tree
-use Rattle.tree.specs.Check.{hasPart, malformed, longest, answerIn, ChecksIn, numberOf}
+use Rattle.tree.specs.Check.{hasPart, malformed, answerIn, ChecksIn, numberOf}
 use Rattle.tree.specs.Whole as whole
 use Rattle.tree.specs.declared.Answer.{Answer}
-use Rattle.tree.specs.declared.Answer.the-variants.{Admitted, Malformed, TooLong, Broken}
+use Rattle.tree.specs.declared.Answer.the-variants.{Admitted, Malformed, Broken}
 use Rattle.admitted.specs.Named.{partOf, Agree, text-same}
 use Rattle.render.specs.declared.Outcome.{Outcome}
 use Rattle.render.specs.Render.{textIn, measured, rendered, outputAfter, MeasuresIn, RendersIn}

@@ -2,7 +2,7 @@
 -- 01's check finds sound so far, and of no other, the first that breaks a rule is the answer in a mode (`join`).
 use Prim.Native.Nat.{ℕ, zero, suc, _+_, _-_, _≤_}
 use native.Mathlib.Omega.{arith}
-use mathlib.Core.Path.{_≡_, refl, _∙_, ap, sym}
+use mathlib.Core.Path.{_≡_, refl}
 use mathlib.Core.List.{List, [], _∷_, _++_, map}
 use mathlib.Core.Bool.{Bool, true, false, not, cond, _&&_, _||_, and-false}
 use lib.Dec.{leb, eqb, ltb}
@@ -10,11 +10,10 @@ use lib.ListN.{length}
 use borrow.Author.Tests.{eq-eqb, ne-eqb, leb-true, not-true, not-false}
 use Rattle.laws.specs.First.{first}
 use Rattle.laws.specs.Tests.{and-left}
-use Rattle.mode.specs.Options.{isSqlite, plain}
+use Rattle.mode.specs.Options.{isSqlite}
 use Rattle.mode.specs.declared.Mode.{Mode}
 use Rattle.source.specs.Source.{endsInside}
 use Rattle.rowid.specs.Rowid.{names}
-use Rattle.utf8.specs.declared.Encoding.{Encoding}
 use Rattle.record.specs.Record.{part, recordAt, count, markOk}
 use Rattle.record.specs.declared.Record.{Record}
 use Rattle.grammar.specs.Kind.{TEXT, Check, ColumnsAndConstraints}
@@ -135,10 +134,10 @@ module _ (m : Mode) (t x : List ℕ) where
       by false false false true a h = omega arith
       by false false false false a h = omega arith
 
-  -- one record: its tests k f o s q d, the answers a and b behind it without and with the rules, and what is broken behind it
   abbrev faultBy : Bool → Bool → ℕ
   faultBy s q = first ((s, 9) ∷ (q, 10) ∷ []) 0
 
+  -- one record: its tests k f o s q d, the answers a and b behind it without and with the rules, and what is broken behind it
   one-record : (k f o s q d : Bool) (i : ℕ) (a b : Answer) (rest : ℕ → Found) → rest 0 ≡ behind 0 → i + 1 ≤ soundTo t a
       → b ≡ ruled a (rest (soundTo t a - (i + 1))) → (here : ℕ → Found) → here 0 ≡ behind 0
       → ((n : ℕ) → here (suc n) ≡ cond (eqb (faultBy s q) 0) (rest n) (stopped (faultBy s q) i))

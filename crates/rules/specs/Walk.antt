@@ -11,7 +11,7 @@ use borrow.Author.Tests.{eqb-true, eqb-false, eq-eqb, ne-eqb, ltb-true, ltb-fals
 use Rattle.laws.specs.Below.{below, at}
 use Rattle.laws.specs.Bytes.{same, equal}
 use Rattle.laws.specs.First.{first}
-use Rattle.laws.specs.Tests.{and-left, and-right}
+use Rattle.laws.specs.Tests.{and-right}
 use Rattle.mode.specs.declared.Mode.{Mode}
 use Rattle.record.specs.Record.{recordAt, count, markOk}
 use Rattle.record.specs.declared.Record.{Record}

@@ -1,7 +1,6 @@
 -- `asked::before_names` is safe and ends: the measure is the number of words that are left.
 use Prim.Native.Nat.{_-_}
 use mathlib.Core.Path.{_≡_, sym}
-use native.Mathlib.Omega.{arith}
 use lib.ListN.{length}
 use lib.Seq.{length-take-le}
 use borrow.Author.Needs.{needs}
