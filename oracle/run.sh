@@ -2,6 +2,7 @@
 # Builds the oracle, holds the stored files to it, and compares the library and the grammar's entries with the crate,
 # the check with the model, what it says of CHECK sources and of without-rowid texts with two readings of each, what the
 # SQLite edition writes with SQLite itself where `sqlite3` is on PATH, and what append writes with the reading rule.
+# It sees that bytes of a text that no record names change nothing.
 # `run.sh --store` writes the stored files instead, and ends.
 # `run.sh --bench` tells the speed, the stack and the size of the library beside the crate's instead, and ends.
 set -euo pipefail
@@ -29,6 +30,7 @@ NUMBERS=${NUMBERS:-10000000}
 ENCODED=${ENCODED:-5000000}
 SOURCES=${SOURCES:-2000000}
 EDITIONS=${EDITIONS:-1000000}
+NAMED=${NAMED:-1000000}
 TABLES=${TABLES:-10000}
 ENTRIES=${ENTRIES:-1000000}
 STREAMS=${STREAMS:-1000000}
@@ -164,6 +166,9 @@ echo "CHECK sources that are left open, every short one and random ones, against
 
 echo "the two editions, every spelling of what they differ in and random trees, against two readings:"
 "$programs/compare" editions "$EDITIONS" "$SEED"
+
+echo "bytes that no record names, changed: the same answers and outputs:"
+"$programs/compare" named "$NAMED" "$SEED"
 
 if command -v sqlite3 > /dev/null; then
     echo "what the SQLite edition writes, handed to SQLite itself:"

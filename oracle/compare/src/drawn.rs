@@ -133,7 +133,7 @@ fn with_text(focus: &Focus, random: &mut Random) -> Case {
 }
 
 /// A tree with such texts mostly.
-fn good(focus: &Focus, random: &mut Random) -> Case {
+pub fn good(focus: &Focus, random: &mut Random) -> Case {
     match random.below(8) {
         0 => (focus.clause)(random),
         1..=4 => (focus.table)(random),

@@ -1,7 +1,7 @@
 //! Plants each fault in the stand-ins and sees that the comparison finds it.
 
 use crate::trees::stand_in::{exchange, faulty_entries};
-use crate::{compare_all, editions, encoding, fuzz, numbers, sources, trees, Extent};
+use crate::{compare_all, editions, encoding, fuzz, named, numbers, sources, trees, Extent};
 use model::record::Record;
 use model::samples::Judged;
 use model::texts;
@@ -145,6 +145,11 @@ faults! {
         EditionIsSwitch
         OtherBitIsEdition
         OtherBitsTurnEditionOff;
+    NAMED:
+        ByteBehindPart
+        ByteBeforePart
+        FirstByteOfTextCounts
+        OnlyPartsChecked;
     NUMBERS:
         OneSubtractionTooFew
         PowerLeftOut
@@ -166,6 +171,8 @@ const BROKEN: u64 = 20_000;
 const STRICT: u64 = 20_000;
 /// Random trees, for each fault of the SQLite edition.
 const IN_EDITIONS: u64 = 20_000;
+/// Random trees, for each fault that looks at bytes that nobody named.
+const WITH_UNNAMED: u64 = 20_000;
 /// Calls of the fuzz run, for each fault.
 const FUZZED: u64 = 1_000_000;
 
@@ -188,9 +195,12 @@ pub fn try_all(whole: bool) -> bool {
     let sources = all_found(SOURCES, whole, &difference_in_sources);
     let by_editions = [EDITIONS, &[Fault::OperatorQuotesDoubled]].concat();
     let editions = all_found(&by_editions, whole, &difference_in_editions);
-    let by_fuzz = [STREAM, APPEND, POSITION, TREES, ENCODING, SOURCES, EDITIONS];
+    let named = all_found(NAMED, whole, &difference_in_named);
+    let by_fuzz = [
+        STREAM, APPEND, POSITION, TREES, ENCODING, SOURCES, EDITIONS, NAMED,
+    ];
     let fuzzed = all_found(&by_fuzz.concat(), whole, &difference_in_fuzz);
-    append && trees && entries && numbers && encoding && sources && editions && fuzzed
+    append && trees && entries && numbers && encoding && sources && editions && named && fuzzed
 }
 
 /// The difference that is found with a fault, if any is.
@@ -252,6 +262,11 @@ fn difference_in_sources(fault: usize) -> Option<String> {
 fn difference_in_editions(fault: usize) -> Option<String> {
     PLANTED.store(fault, Ordering::Relaxed);
     editions::compare_few(IN_EDITIONS, SEED).err()
+}
+
+fn difference_in_named(fault: usize) -> Option<String> {
+    PLANTED.store(fault, Ordering::Relaxed);
+    named::compare(WITH_UNNAMED, SEED).err()
 }
 
 fn difference_in_fuzz(fault: usize) -> Option<String> {

@@ -10,6 +10,7 @@ mod faults;
 mod fuzz;
 mod guarded;
 mod hex;
+mod named;
 mod numbers;
 mod pages;
 mod readable;
@@ -34,6 +35,7 @@ const USAGE: &str = "usage: compare [TOKENS [REFUSED-CALLS [SEED]]]
        compare encoding COUNT SEED
        compare sources COUNT SEED
        compare editions COUNT SEED
+       compare named COUNT SEED
        compare sqlite COUNT SEED
        compare reading COUNT SEED
        compare fuzz CALLS SEED";
@@ -57,6 +59,7 @@ fn main() {
         Some("encoding") => compare_random(&words[1..], &encoding::compare),
         Some("sources") => compare_random(&words[1..], &sources::compare),
         Some("editions") => compare_random(&words[1..], &editions::compare),
+        Some("named") => compare_random(&words[1..], &named::compare),
         Some("sqlite") => compare_random(&words[1..], &sqlite::compare),
         Some("reading") => compare_random(&words[1..], &readable::compare),
         Some("fuzz") => compare_random(&words[1..], &fuzz::compare),

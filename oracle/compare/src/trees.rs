@@ -8,8 +8,7 @@ pub mod stand_in;
 
 use crate::fuzz::Judge;
 use crate::guarded::Fences;
-pub use call::by_bytes;
-use call::{Asked, Call, Lent};
+pub use call::{by_bytes, Asked, Call, Lent, Outcome};
 use model::damage::{damage, Case};
 use model::options::{self, Edition, MEANT, SETTINGS};
 use model::samples::{sample_in, Judged};

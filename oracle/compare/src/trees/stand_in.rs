@@ -5,16 +5,17 @@ mod strict;
 
 use crate::faults::{planted, Fault};
 use crate::fuzz::SOURCES;
+use crate::named::texts::named;
 use crate::stand_in;
 use entries::faults::faulty;
 use entries::interpret::{node, Corners};
 use entries::shape::Shape;
 use entries::{read, written, Grammar};
 use model::check::{check, DEEPEST};
-use model::grammar::LIST;
+use model::grammar::{LIST, TEXT, TOKEN};
 use model::options::Edition;
 use model::outline::outline;
-use model::record::{Record, MOST_BYTES};
+use model::record::{Record, MOST_BYTES, SIZE, VALUE_PRESENT};
 use std::slice::{from_raw_parts, from_raw_parts_mut};
 use std::sync::{LazyLock, RwLock};
 use tokens::encoding::{Refusal, CUT_OFF, NOT_UTF8};
@@ -146,19 +147,54 @@ fn spoil(fault: Fault, out: &mut [u8]) {
 }
 
 fn rendered(options: u32, tree: &[u8], text: &[u8]) -> Result<Vec<u8>, Refusal> {
+    let text = &seen(tree, text)[..];
     let edition = edition::of(options);
     let without = strict::refusal(options, tree, text, refusal(tree, text));
     match edition::refusal(edition, tree, text, without) {
         (0, _) => {}
         refusal => return Err(refusal),
     }
-    let root = node(tree).map_err(|_| BROKEN)?;
+    let root = node(&misread(tree, text)).map_err(|_| BROKEN)?;
     let grammar = GRAMMAR.read().expect("no panic holds it");
     let mut tokens = written(&grammar, corners(edition), &root, text).map_err(|_| BROKEN)?;
     if planted(Fault::RootListWithoutCommas) && root.record.kind == LIST {
         tokens.retain(|token| token.number != TK_COMMA as u16);
     }
-    Ok(bytes_of(&tokens))
+    let newline = text.first() == Some(&b'\n');
+    let spaced = !(planted(Fault::FirstByteOfTextCounts) && newline);
+    Ok(bytes_of(&tokens, spaced))
+}
+
+/// The text, or with the fault what the records name of it and letters.
+fn seen(tree: &[u8], text: &[u8]) -> Vec<u8> {
+    let named = match planted(Fault::OnlyPartsChecked) {
+        true => named(tree, text),
+        false => vec![true; text.len()],
+    };
+    let bytes = text.iter().zip(named);
+    bytes
+        .map(|(&byte, named)| if named { byte } else { b'x' })
+        .collect()
+}
+
+/// The tree, with the faults that make a part longer by a byte behind it or before it.
+fn misread(tree: &[u8], text: &[u8]) -> Vec<u8> {
+    let mut tree = tree.to_vec();
+    let ascii = |place: usize| text.get(place).is_some_and(u8::is_ascii);
+    for index in 0..tree.len() / SIZE {
+        let mut record = Record::read(&tree, index).expect("a whole record");
+        let with_value = record.kind == TOKEN && record.flags & VALUE_PRESENT != 0;
+        let (start, length) = (record.start as usize, record.length as usize);
+        if record.kind != TEXT && !with_value || length == 0 {
+            continue;
+        }
+        let behind = planted(Fault::ByteBehindPart) && ascii(start + length);
+        let before = planted(Fault::ByteBeforePart) && start > 0 && ascii(start - 1);
+        record.start -= u32::from(before);
+        record.length += u32::from(before) + u32::from(behind);
+        record.write(&mut tree, index);
+    }
+    tree
 }
 
 fn refusal(tree: &[u8], text: &[u8]) -> Refusal {
@@ -222,9 +258,8 @@ fn outside_literals(source: &str) -> String {
     pieces.collect::<Vec<_>>().join("''")
 }
 
-fn bytes_of(tokens: &[Token]) -> Vec<u8> {
+fn bytes_of(tokens: &[Token], mut spaced: bool) -> Vec<u8> {
     let mut bytes = vec![];
-    let mut spaced = true;
     for token in tokens {
         let value = token.value.as_deref().map(str::as_bytes);
         let (added, now) = stand_in::written(spaced, token.number, value);
