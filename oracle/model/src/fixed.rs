@@ -7,6 +7,7 @@ mod order;
 mod sources;
 
 use crate::damage::Case;
+use crate::grammar::{NONE, NUMBER};
 use crate::record::{Record, SIZE};
 use crate::row::Row;
 use tokens::random::Random;
@@ -56,6 +57,44 @@ fn edited(case: &Case, index: usize, change: impl FnOnce(&mut Record)) -> Case {
     let mut case = case.clone();
     case.edit(index, change);
     case
+}
+
+/// A case whose text is all the part of the TEXT at an index, and ends in a character of two bytes; with one fault of that record each.
+fn faults_at(case: &Case, index: usize) -> Vec<Case> {
+    let length = case.text.len() as u32;
+    let at = |change: &dyn Fn(&mut Record)| edited(case, index, change);
+    vec![
+        at(&|record| record.mark = [0x4E, 0x53]),
+        at(&|record| record.kind = NUMBER),
+        at(&|record| record.kind = NONE),
+        at(&|record| record.flags = 1),
+        at(&|record| record.children = 1),
+        at(&|record| record.length = length - 1),
+        at(&|record| record.length = length + 1),
+        at(&|record| record.start = length + 1),
+        at(&|record| (record.start, record.length) = (length - 1, 1)),
+        at(&|record| record.start = u32::MAX),
+        at(&|record| record.length = u32::MAX),
+    ]
+}
+
+/// The case cut off behind so many records; with a record too many, a tree that is no row of records, and a text that is no
+/// UTF-8 or is cut off.
+fn faults_of_the_whole(case: &Case, cuts: &[usize]) -> Vec<Case> {
+    let changed = |change: &dyn Fn(&mut Case)| {
+        let mut case = case.clone();
+        change(&mut case);
+        case
+    };
+    let cut = |&records: &usize| changed(&|case| case.tree.truncate(records * SIZE));
+    let mut cases: Vec<Case> = cuts.iter().map(cut).collect();
+    cases.push(changed(&|case| {
+        case.tree.extend(Record::new(NONE, 0).bytes())
+    }));
+    cases.push(changed(&|case| case.tree.push(0)));
+    let ends = [&b"\xFF"[..], b"\xC3"];
+    cases.extend(ends.map(|end| changed(&|case| case.text.extend(end))));
+    cases
 }
 
 /// The case with records from `from` to `to` - 1 exchanged for others.

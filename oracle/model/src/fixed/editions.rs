@@ -1,11 +1,11 @@
 //! Without-rowid texts that SQLite reads, or not, with options (request viii).
 
 use super::sources::subs;
-use super::{edited, of};
+use super::{edited, faults_at, faults_of_the_whole, of};
 use crate::damage::Case;
-use crate::grammar::{CHECK, LIST, NONE, NUMBER, OPERATOR, RUN, TABLE_BODY, TEXT, TOKEN};
+use crate::grammar::{CHECK, LIST, NONE, OPERATOR, RUN, TABLE_BODY, TEXT, TOKEN};
 use crate::options::{MEANT, SETTINGS, SQLITE, STRICT};
-use crate::record::{Record, SIZE, VALUE_PRESENT};
+use crate::record::{Record, VALUE_PRESENT};
 
 /// Texts whose two parts are WITHOUT and ROWID.
 pub const READ: [&str; 16] = [
@@ -165,20 +165,7 @@ fn places() -> Vec<Case> {
 fn faults_at_the_text() -> Vec<Case> {
     // Two bytes for the last character, so that an end can stand inside it.
     let other = body("a \u{E9}").with(SQLITE);
-    let at = |change: fn(&mut Record)| edited(&other, 3, change);
-    vec![
-        at(|record| record.mark = [0x4E, 0x53]),
-        at(|record| record.kind = NUMBER),
-        at(|record| record.kind = NONE),
-        at(|record| record.flags = 1),
-        at(|record| record.children = 1),
-        at(|record| record.length = 3),
-        at(|record| record.length = 5),
-        at(|record| record.start = 5),
-        at(|record| (record.start, record.length) = (3, 1)),
-        at(|record| record.start = u32::MAX),
-        at(|record| record.length = u32::MAX),
-    ]
+    faults_at(&other, 3)
 }
 
 /// Another text, and a fault before it, behind it, or of the whole.
@@ -196,23 +183,7 @@ fn faults_elsewhere() -> Vec<Case> {
         edited(&other, text + 1, flagged),
         edited(&other, last, outside),
     ];
-    let cut = |records: usize| {
-        let mut case = other.clone();
-        case.tree.truncate(records * SIZE);
-        case
-    };
-    cases.extend([text, text + 1, last].map(cut));
-    let mut longer = other.clone();
-    longer.tree.extend(none().bytes());
-    let mut ragged = other.clone();
-    ragged.tree.push(0);
-    let broken = [&b"\xFF"[..], b"\xC3"].map(|end| {
-        let mut case = other.clone();
-        case.text.extend(end);
-        case
-    });
-    cases.extend([longer, ragged]);
-    cases.extend(broken);
+    cases.extend(faults_of_the_whole(&other, &[text, text + 1, last]));
     cases.extend(with_open_source());
     cases.extend(with_depth());
     cases

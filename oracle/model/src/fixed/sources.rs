@@ -1,10 +1,10 @@
 //! CHECK sources that are left open, or not, with options (request vii).
 
-use super::{edited, of};
+use super::{edited, faults_at, faults_of_the_whole, of};
 use crate::damage::Case;
 use crate::grammar::{CHECK, LIST, NONE, NUMBER, RUN, TEXT, TOKEN};
 use crate::options::{MEANT, STRICT};
-use crate::record::{Record, SIZE, VALUE_PRESENT};
+use crate::record::{Record, VALUE_PRESENT};
 
 /// Sources that end inside nothing, or inside a line comment.
 const WHOLE: [&str; 34] = [
@@ -190,20 +190,7 @@ fn places() -> Vec<Case> {
 fn faults_at_the_source() -> Vec<Case> {
     // Two bytes for the last character, so that an end can stand inside it.
     let open = check("'\u{E9}").with(STRICT);
-    let at = |change: fn(&mut Record)| edited(&open, 2, change);
-    vec![
-        at(|record| record.mark = [0x4E, 0x53]),
-        at(|record| record.kind = NUMBER),
-        at(|record| record.kind = NONE),
-        at(|record| record.flags = 1),
-        at(|record| record.children = 1),
-        at(|record| record.length = 2),
-        at(|record| record.length = 4),
-        at(|record| record.start = 4),
-        at(|record| (record.start, record.length) = (2, 1)),
-        at(|record| record.start = u32::MAX),
-        at(|record| record.length = u32::MAX),
-    ]
+    faults_at(&open, 2)
 }
 
 /// An open source, and a fault before it, behind it, or of the whole.
@@ -223,24 +210,10 @@ fn faults_elsewhere() -> Vec<Case> {
         edited(&open, second, outside),
         edited(&open, second, |record| record.start = 1 << 20),
     ];
-    let cut = |records: usize| {
-        let mut case = open.clone();
-        case.tree.truncate(records * SIZE);
-        case
-    };
-    cases.extend([first, first + 1, second, second + 2].map(cut));
-    let mut longer = open.clone();
-    longer.tree.extend(Record::new(NONE, 0).bytes());
-    let mut ragged = open.clone();
-    ragged.tree.push(0);
-    let ends = [&b"\xFF"[..], b"\xC3"];
-    let broken = ends.map(|end| {
-        let mut case = open.clone();
-        case.text.extend(end);
-        case
-    });
-    cases.extend([longer, ragged]);
-    cases.extend(broken);
+    cases.extend(faults_of_the_whole(
+        &open,
+        &[first, first + 1, second, second + 2],
+    ));
     cases.extend(with_depth());
     cases
 }
