@@ -7,3 +7,4 @@ pub mod Solved
 pub mod Admitted
 pub mod Editions
 pub mod Named
+pub mod Ample

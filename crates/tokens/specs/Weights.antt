@@ -1,6 +1,7 @@
 -- What single tokens and the words of a shape come to, in bytes: for the bound of a text.
 use Prim.Native.Nat.{ℕ, zero, suc, _+_, _*_, _^_, _≤_, _<_}
 use native.Mathlib.Omega.{arith}
+use native.Mathlib.Nat.{add-mul}
 use mathlib.Core.Path.{_≡_, refl}
 use mathlib.Core.List.{List, [], _∷_}
 use mathlib.Core.Bool.{Bool, true, false, cond, _&&_}
@@ -9,7 +10,7 @@ use lib.ListN.{length, take, drop, length-append, length-take, length-drop}
 use lib.IntN.{natAbs}
 use borrow.Author.Tests.{leb-true, leb-false}
 use Rattle.laws.specs.Text.{ascii}
-use Rattle.laws.specs.Tests.{and-left, and-right}
+use Rattle.laws.specs.Tests.{and-parts}
 use Rattle.spelling.specs.Rows.{rows}
 use Rattle.spelling.specs.Spelling as spellings
 use Rattle.spelling.specs.Spelling.{spelling}
@@ -25,7 +26,9 @@ use Rattle.record.specs.Record.{signed, numberOf}
 use Rattle.record.specs.Laws.{signed-low, signed-high}
 use Rattle.record.specs.declared.Record.{Record}
 use Rattle.grammar.specs.Shape.{Shape, nothing, token, ident, word, said, line, when, is, slot, each, commas, row, lines, tuples, given, filled, replacing, decimal, brackets, quoted, rowid, source, both, later, _·_}
-use Rattle.grammar.specs.Grammar.{table, lookup, shape}
+use Rattle.grammar.specs.Grammar.{shape}
+use Rattle.grammar.specs.Slots.{slotsOf}
+use Rattle.grammar.specs.Entries.{entry}
 use Rattle.tokens.specs.Corners.{bare, id, newline, secondPart, without, dashes, sourced, inner, quote, pairs}
 use Rattle.tokens.specs.Tokens.{comma, anything, between}
 
@@ -37,61 +40,80 @@ longest = 65536
 abbrev pub around : ℕ
 around = longestToken + 1
 
--- what a record pays for: the most is a LIST's
-abbrev pub each-pays : ℕ
-each-pays = around * longest
+-- ---- what a shape writes itself: so many bytes of words, with the numbers and the brackets that its children stand for, and so often the text
+-- part of its own record. The text of a child is the child's to pay
+pub record Cost : Type 0 where
+  pub words : ℕ
+  pub parts : ℕ
 
--- ---- the words and the values that a shape writes itself
-unfoldable pub base : Shape → ℕ
-base nothing = 0
-base token = longestToken + longest
-base ident = longestToken + longest
-base (word w) = longestToken
-base (said s) = longestToken + length (ascii s)
-base (line w) = around
+abbrev free : Cost
+free = record { words = 0; parts = 0 }
+
+abbrev bytes : ℕ → Cost
+bytes n = record { words = n; parts = 0 }
+
+abbrev together : Cost → Cost → Cost
+together a b = record { words = a .words + b .words; parts = a .parts + b .parts }
+
+unfoldable pub base : Shape → Cost
+base nothing = free
+base token = record { words = longestToken; parts = 1 }
+base ident = record { words = longestToken; parts = 1 }
+base (word w) = bytes longestToken
+base (said s) = bytes (longestToken + length (ascii s))
+base (line w) = bytes around
 base (when bit a) = base a
 base (is n a) = base a
-base (slot c) = 0
-base (each c) = 0
-base (commas c) = 0
-base (row c) = 0
-base (lines c w) = 0
-base (tuples c) = 0
+base (slot c) = free
+base (each c) = free
+base (commas c) = free
+base (row c) = free
+base (lines c w) = free
+base (tuples c) = free
 base (given a) = base a
 base (filled a) = base a
-base (replacing a b) = base a + base b
-base decimal = 0
-base brackets = 0
-base quoted = 0
-base rowid = 0
-base source = 0
-base (both a b) = base a + around + base b
-base (later a b) = base a + base b
-base (a · b) = base a + base b
+base (replacing a b) = together (base a) (base b)
+base decimal = bytes (longestToken + 20)
+base brackets = bytes (2 * 255)
+base quoted = bytes (longestToken + 2)
+base rowid = bytes (2 * longestToken)
+base source = bytes (longestToken + around)
+base (both a b) = together (together (base a) (bytes 1)) (base b)
+base (later a b) = together (base a) (base b)
+base (a · b) = together (base a) (base b)
 
--- one computed test over all entries of the grammar
-affordable : List (ℕ × Shape) → Bool
-affordable [] = true
-affordable (r ∷ rs) = leb (base (r .1)) each-pays && affordable rs
+-- where the record's own part has n bytes
+abbrev pub cost : Cost → ℕ → ℕ
+cost c n = c .words + c .parts * n
 
-table-affordable : affordable table ≡ true
-unfolding affordable base
-table-affordable = refl
+pub cost-together : (a b : Cost) (n : ℕ) → cost (together a b) n ≡ cost a n + cost b n
+cost-together a b n = omega (arith, add-mul (a .parts) (b .parts) n)
 
-looked-up : (rs : List (ℕ × Shape)) (k : ℕ) → affordable rs ≡ true → base (lookup rs k) ≤ each-pays
-unfolding affordable base
-looked-up [] k h = omega arith
-looked-up (r ∷ rs) k h =
-    by (eqb k (r .0)) (leb-true (base (r .1)) each-pays (and-left (leb (base (r .1)) each-pays) (affordable rs) h))
-    (looked-up rs k (and-right (leb (base (r .1)) each-pays) (affordable rs) h))
-  where
-    by : (b : Bool) → base (r .1) ≤ each-pays → base (lookup rs k) ≤ each-pays → base (cond b (r .1) (lookup rs k)) ≤ each-pays
-    by true p q = p
-    by false p q = q
+-- ---- one computed test over all entries of the grammar: the words of an entry are paid for by so much for its record and so much for each slot;
+-- they are few; and the record's own part is written at most twice. The most for its slots is a TypeName's, which has three, and 255 pairs of brackets
+abbrev pub own : ℕ
+own = 30
 
-pub shape-affordable : (k : ℕ) → base (shape k) ≤ each-pays
-unfolding shape
-shape-affordable k = looked-up table k table-affordable
+abbrev pub each-slot : ℕ
+each-slot = 170
+
+pub record Affordable (c : Cost) (slots : ℕ) : Type 0 where
+  pub paid : c .words ≤ own + each-slot * slots
+  pub few : c .words ≤ longest
+  pub twice : c .parts ≤ 2
+
+abbrev affordable : Cost → ℕ → Bool
+affordable c n = leb (c .words) (own + each-slot * n) && (leb (c .words) longest && leb (c .parts) 2)
+
+tested : (c : Cost) (n : ℕ) → affordable c n ≡ true → Affordable c n
+tested c n h =
+    let two = and-parts (leb (c .words) (own + each-slot * n)) _ h in
+    let more = and-parts (leb (c .words) longest) _ (two .1) in
+    record { paid = leb-true (c .words) _ (two .0); few = leb-true (c .words) _ (more .0); twice = leb-true (c .parts) 2 (more .1) }
+
+pub shape-affordable : (k : ℕ) → Affordable (base (shape k)) (length (slotsOf (shape k)))
+unfolding base slotsOf
+shape-affordable k = tested _ _ (entry (λ m s. affordable (base s) (length (slotsOf s))) k refl refl)
 
 -- ---- what single tokens come to
 pub comma-weight : weigh comma ≡ 1
@@ -115,8 +137,8 @@ unfolding pairs
 pairs-weight zero = omega (arith, weigh-none)
 pairs-weight (suc n) = omega (arith, weigh-append (bare TK-LBRACKET ∷ bare TK-RBRACKET ∷ []) (pairs n), pair-weight, pairs-weight n)
 
-pub cut-short : (n m : ℕ) (x : List ℕ) → length (take n (drop m x)) ≤ length x
-cut-short n m x = simp (length-take, length-drop) (omega arith)
+pub cut-short : (n m : ℕ) (x : List ℕ) → (length (take n (drop m x)) ≤ n) × (length (take n (drop m x)) ≤ length x)
+cut-short n m x = (simp length-take (omega arith), simp (length-take, length-drop) (omega arith))
 
 pub sourced-weight : (x : List ℕ) → weigh (sourced x) ≤ longestToken + length x + around
 unfolding sourced
@@ -133,7 +155,7 @@ without-weight x = by (eqb (length (parts x)) 2)
     by : (b : Bool) → weigh (cond b (bare TK-WITHOUT ∷ id (secondPart x) ∷ []) []) ≤ longestToken + longestToken + length x
     by true =
         let s = second (parts x) in
-        omega (arith, weigh-append (bare TK-WITHOUT ∷ []) (id (secondPart x) ∷ []), weigh-one (bare TK-WITHOUT), weigh-one (id (secondPart x)), cut-short (s .len) (s .start) x)
+        omega (arith, weigh-append (bare TK-WITHOUT ∷ []) (id (secondPart x) ∷ []), weigh-one (bare TK-WITHOUT), weigh-one (id (secondPart x)), cut-short (s .len) (s .start) x .1)
     by false = omega (arith, weigh-none)
 
 pub between-weight : (v : Edition) (ts us : List Token) → weigh (between v ts us) ≤ 1
