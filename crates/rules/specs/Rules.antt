@@ -114,6 +114,26 @@ fault-is m x (oneOr ks c) r = none-asked (m .strict) (isSqlite (m .edition))
 fault-is m x small r = none-asked (m .strict) (isSqlite (m .edition))
 
 -- ---- the scan in a mode is 01's scan, but for the first that breaks a rule
+module _ (t x : List ℕ) where
+  -- 01's scan finds no record sound past the end
+  pub sound-within : (n i : ℕ) (ps : List Place) → i + n ≡ count t → soundTo t (scan t x n i ps) ≤ count t
+  unfolding scanIn faultsIn
+  sound-within zero i [] e = omega arith
+  sound-within zero i (p ∷ ps) e = omega arith
+  sound-within (suc n) i [] e = omega arith
+  sound-within (suc n) i (p ∷ ps) e =
+      let r = recordAt t i in
+      by (not (markOk r)) (not (fits (p .class) r)) (not (inside x r)) (ltb deepest (p .depth)) _
+      (sound-within n (i + 1) (map (place (p .depth + 1)) (holds (p .class) r) ++ ps) (omega arith))
+    where
+      by : (k f o d : Bool) (a : Answer) → soundTo t a ≤ count t
+          → soundTo t (first ((k, Mark i) ∷ (f, Misfit i) ∷ (o, Outside i) ∷ (d, Deep i) ∷ []) a) ≤ count t
+      by true f o d a h = omega arith
+      by false true o d a h = omega arith
+      by false false true d a h = omega arith
+      by false false false true a h = omega arith
+      by false false false false a h = h
+
 module _ (m : Mode) (t x : List ℕ) where
   -- 01's scan from an index on finds the records before it sound
   sound-onward : (n i : ℕ) (ps : List Place) → i + n ≡ count t → i ≤ soundTo t (scan t x n i ps)

@@ -1,5 +1,5 @@
 -- From 01's check and the walk to the answer in a mode; and what a mode admits, one that asks for less admits.
-use Prim.Native.Nat.{ℕ, zero, suc, _+_, _-_, _<_}
+use Prim.Native.Nat.{ℕ, zero, suc, _+_, _-_, _≤_, _<_}
 use native.Mathlib.Omega.{arith}
 use mathlib.Core.Path.{_≡_, refl, _∙_, ap, sym}
 use mathlib.Core.List.{List, [], _∷_, _++_, map}
@@ -17,10 +17,11 @@ use Rattle.utf8.specs.declared.Encoding.{Encoding}
 use Rattle.record.specs.Record.{recordAt, count, markOk}
 use Rattle.grammar.specs.Grammar.{root}
 use Rattle.grammar.specs.Classes.{classes, classAt, rootAt, root-is}
-use Rattle.tree.specs.Check.{Place, place, holds, fits, inside, swallows, misnames, deepest, faultsIn, scanIn, scan, malformed, longest, answerIn, ChecksIn, Checks, numberOf}
+use Rattle.tree.specs.Check.{Place, place, holds, fits, inside, swallows, misnames, deepest, faultsIn, scanIn, scan, malformed, longest, answerIn, answerTo, ChecksIn, numberOf}
+use Rattle.tree.specs.Bounds.{tree-short}
 use Rattle.tree.specs.declared.Answer.{Answer}
 use Rattle.tree.specs.declared.Answer.the-variants.{Malformed, TooLong, Broken, Mark, Misfit, Outside, Unclosed, NotRowid, Deep}
-use Rattle.rules.specs.Rules.{ruleAt, soundTo, behind, broken, ruled, join}
+use Rattle.rules.specs.Rules.{ruleAt, soundTo, behind, broken, ruled, join, sound-within}
 use Rattle.rules.specs.Walk.{Reached, resumed, Rules, Led, Finds}
 use Rattle.rules.specs.declared.Found.{Found}
 
@@ -40,7 +41,16 @@ early-or t false true b e a s q h = absurd (omega (arith, ap (soundTo t) q))
 early-or t false false true e a s q h = absurd (omega (arith, ap (soundTo t) q))
 early-or t false false false e a s q h = q
 
-module _ (t x : List ℕ) (a : Answer) (c : Checks t x a) where
+-- the answer of 01's check, whatever was said of the text's encoding
+pub record Answered (t x : List ℕ) (a : Answer) : Type 0 where
+  pub encoding : Encoding
+  pub answers : a ≡ answerTo encoding t x
+
+-- and the answer in a mode, for the same encoding
+abbrev pub Ruled : Mode → List ℕ → List ℕ → Answer → Answer → Type 0
+Ruled m t x a r = (e : Encoding) → a ≡ answerTo e t x → r ≡ answerIn m e t x
+
+module _ (t x : List ℕ) (a : Answer) (c : Answered t x a) where
   scanned : 0 < soundTo t a → a ≡ scan t x (count t) 0 at-root
   unfolding answerIn
   scanned h = early-or t (malformed t) (ltb longest (length x)) (not (eqb (utf8.number (c .encoding)) 0)) (c .encoding) a _ (c .answers) h
@@ -51,8 +61,20 @@ module _ (t x : List ℕ) (a : Answer) (c : Checks t x a) where
   pub led : Led t x (soundTo t a) 0 64 0 1
   led = record { row = rootAt; rules = root-rules; rest = []; reached = root-reached }
 
+  -- no more records are sound than there are
+  pub sound-few : soundTo t a ≤ longest
+  unfolding answerIn
+  sound-few = rw (c .answers) (by (malformed t) refl (ltb longest (length x)) (not (eqb (utf8.number (c .encoding)) 0)))
+    where
+      by : (f : Bool) → malformed t ≡ f → (l b : Bool)
+          → soundTo t (first ((f, Malformed) ∷ (l, TooLong) ∷ (b, Broken (c .encoding)) ∷ []) (scan t x (count t) 0 at-root)) ≤ longest
+      by true q l b = omega arith
+      by false q true b = omega arith
+      by false q false true = omega arith
+      by false q false false = omega (arith, sound-within t x (count t) 0 at-root (omega arith), tree-short t q)
+
 -- ---- what the walk finds is what is broken
-module _ (m : Mode) (t x : List ℕ) (a : Answer) (c : Checks t x a) where
+module _ (m : Mode) (t x : List ℕ) (a : Answer) (c : Answered t x a) where
   -- a walk over no places is at its end
   none-left : (n i : ℕ) → broken m t x n i [] ≡ behind 0
   unfolding broken
@@ -71,18 +93,13 @@ module _ (m : Mode) (t x : List ℕ) (a : Answer) (c : Checks t x a) where
         by true q = rw (walked, q, none-left (soundTo t a - w .at) (w .at), eqb-true (w .fault) 0 q)
         by false q = rw (walked, q)
 
-    pub in-mode : ChecksIn m t x (ruled a w)
+    pub in-mode : Ruled m t x a (ruled a w)
     unfolding answerIn ruled broken
-    in-mode =
-        record {
-          encoding = c .encoding;
-          encoded = c .encoded;
-          answers = sym ruled-same ∙ by (malformed t) (ltb longest (length x)) (not (eqb (utf8.number (c .encoding)) 0)) (c .answers);
-        }
+    in-mode e is = sym ruled-same ∙ by (malformed t) (ltb longest (length x)) (not (eqb (utf8.number e) 0)) is
       where
-        by : (f l b : Bool) → a ≡ first ((f, Malformed) ∷ (l, TooLong) ∷ (b, Broken (c .encoding)) ∷ []) (scan t x (count t) 0 at-root)
+        by : (f l b : Bool) → a ≡ first ((f, Malformed) ∷ (l, TooLong) ∷ (b, Broken e) ∷ []) (scan t x (count t) 0 at-root)
             → ruled a (broken m t x (soundTo t a) 0 at-root)
-            ≡ first ((f, Malformed) ∷ (l, TooLong) ∷ (b, Broken (c .encoding)) ∷ []) (scanIn m t x (count t) 0 at-root)
+            ≡ first ((f, Malformed) ∷ (l, TooLong) ∷ (b, Broken e) ∷ []) (scanIn m t x (count t) 0 at-root)
         by true l b q = rw q
         by false true b q = rw q
         by false false true q = rw q
@@ -101,13 +118,13 @@ plain-is m e f =
     let v = crate-is (m .edition) f in
     rw (v, ← e)
 
-pub as-plain : (m : Mode) (t x : List ℕ) (a : Answer) → (m .strict || isSqlite (m .edition)) ≡ false → Checks t x a → ChecksIn m t x a
-as-plain m t x a h c = by (m .strict) (isSqlite (m .edition)) refl refl h
+pub as-plain : (m : Mode) (t x : List ℕ) (a : Answer) → (m .strict || isSqlite (m .edition)) ≡ false → Ruled m t x a a
+as-plain m t x a h k is = by (m .strict) (isSqlite (m .edition)) refl refl h
   where
-    by : (b d : Bool) → m .strict ≡ b → isSqlite (m .edition) ≡ d → (b || d) ≡ false → ChecksIn m t x a
+    by : (b d : Bool) → m .strict ≡ b → isSqlite (m .edition) ≡ d → (b || d) ≡ false → a ≡ answerIn m k t x
     by true d e f z = absurd (false≢true (sym z))
     by false true e f z = absurd (false≢true (sym z))
-    by false false e f z = rw (← plain-is m e f) c
+    by false false e f z = rw (← plain-is m e f) is
 
 -- ---- what a mode admits, a mode that asks for less admits
 pub record Looser (k m : Mode) : Type 0 where

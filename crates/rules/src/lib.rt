@@ -1,19 +1,22 @@
-// The check in a mode (02, vii): 01's check first, and then the rules for single TEXTs, at the records before its refusal.
+// The check in a mode (02, vii and viii): 01's check first, and then the rules for single TEXTs, at the records before its refusal.
 //
 // A rule is asked for behind 5 and before 6, so it is asked only of records that 01's check found sound so far. These are walked once more, on child
 // records, with the remaining depth falling from 64; with no rule in force they are not.
 ghost use mathlib.Core.Path.{_≡_};
 ghost use mathlib.Core.Bool.{true};
 ghost use Prim.Native.Nat.{_≤_};
-ghost use Rattle.tree.specs.Check.{inside as inside', longest, ChecksIn, placeOf};
+ghost use Rattle.tree.specs.Check.{inside as inside', longest, answerIn, ChecksIn};
+ghost use Rattle.tree.specs.Told.{taken};
 ghost use Rattle.rules.specs.Rules.{inForce, keeps as keeps', ruleFault, rulesOf, soundTo, ruled as ruled'};
 ghost use Rattle.rules.specs.Walk.{Led, Finds};
+ghost use Rattle.rules.specs.Whole.{Answered, Ruled};
 use grammar::kind::CHECK;
 use grammar::kind::COLUMNS_AND_CONSTRAINTS;
 use grammar::kind::TEXT;
 use mode::Mode;
 use record::Record;
 use tree::Answer;
+use utf8::Encoding;
 
 // The rule for a CHECK's source, and 02's number of one that breaks it.
 const SOURCE: u64 = 1;
@@ -139,7 +142,7 @@ fn rule_row(
 
 // How many records a rule may be asked of, where 01's check answers this: those before its refusal, and that record too if it is only too deep.
 fn sound_to(tree: &[u8], a: Answer) -> usize
-    requires { ⌜ placeOf a ≤ longest ⌝ }
+    requires { ⌜ soundTo (now tree) a ≤ longest ⌝ }
     ensures { λ n. ⌜ n ≡ soundTo (now (tree .entry)) a ⌝ }
 {
     match a {
@@ -170,19 +173,30 @@ fn ruled(a: Answer, w: Found) -> Answer
     a
 }
 
+// The answer in a mode, where 01's check answers this: with no rule in force it stays.
+fn in_mode(tree: &[u8], text: &[u8], a: Answer, mode: Mode) -> Answer
+    requires { ⌜ Answered (now tree) (now text) a ⌝ }
+    ensures { λ r. ⌜ Ruled mode (now (tree .entry)) (now (text .entry)) a r ⌝ }
+{
+    let strict = mode.strict;
+    let edition = mode.edition;
+    if !(strict | mode::sqlite(edition)) {
+        return a;
+    }
+    let end = sound_to(tree, a);
+    ruled(a, rule_row(tree, text, 0, NO_RULES, DEEPEST, 1, end, mode))
+}
+
 // The check of a tree and its text in a mode: the first fitting refusal, or that they are admitted.
 pub fn check(tree: &[u8], text: &[u8], mode: Mode) -> Answer
     ensures { λ r. ⌜ ChecksIn mode (now (tree .entry)) (now (text .entry)) r ⌝ }
 {
-    let answer = tree::check(tree, text);
-    let strict = mode.strict;
-    let edition = mode.edition;
-    if !(strict | mode::sqlite(edition)) {
-        return answer;
-    }
-    let end = sound_to(tree, answer);
-    ruled(
-        answer,
-        rule_row(tree, text, 0, NO_RULES, DEEPEST, 1, end, mode),
-    )
+    in_mode(tree, text, tree::check(tree, text), mode)
+}
+
+// The same over a text whose encoding is told.
+pub fn check_told(tree: &[u8], text: &[u8], told: Encoding, mode: Mode) -> Answer
+    ensures { λ r. ⌜ r ≡ answerIn mode (taken (now (text .entry)) told) (now (tree .entry)) (now (text .entry)) ⌝ }
+{
+    in_mode(tree, text, tree::check_told(tree, text, told), mode)
 }

@@ -5,3 +5,4 @@ pub mod Steps
 pub mod Whole
 pub mod Bounds
 pub mod Examples
+pub mod Told

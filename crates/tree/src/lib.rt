@@ -14,9 +14,10 @@ ghost use Rattle.grammar.specs.Kind.{TOKEN as TOKEN'};
 ghost use Rattle.grammar.specs.Grammar.{root};
 ghost use Rattle.grammar.specs.Classes.{classesHeld, classAt, tokenAt};
 ghost use Rattle.grammar.specs.Packed.{kindsHeld, ruleOf, along, allHeld};
-ghost use Rattle.tree.specs.Check.{place as at, flagsFit, hasPart, fieldsFit, rangeFits, fits, inside as inside', scan, malformed as malformed', Checks, numberOf, placeOf};
+ghost use Rattle.tree.specs.Check.{place as at, flagsFit, hasPart, fieldsFit, rangeFits, fits, inside as inside', scan, malformed as malformed', answerTo, Checks, numberOf, placeOf};
 ghost use Rattle.tree.specs.Walk.{refused, refuse, answerOf, Walks, zeros as zeros', kindFits, partInside, usedFault, faultOf, pastAt, Meets};
 ghost use Rattle.tree.specs.Laws.{Counts};
+ghost use Rattle.tree.specs.Told.{taken};
 use grammar::ROOT;
 use grammar::SLOTS;
 use grammar::SMALL;
@@ -462,9 +463,10 @@ fn check_records(tree: &[u8], text: &[u8]) -> Answer
     answer_of(w)
 }
 
-// The check of a tree and its text: the first fitting refusal, or that they are admitted.
-pub fn check(tree: &[u8], text: &[u8]) -> Answer
-    ensures { λ r. ⌜ Checks (now (tree .entry)) (now (text .entry)) r ⌝ }
+// The check of a tree over a text whose encoding is told: the first fitting refusal, or that they are admitted. That a text is valid is not taken where
+// it begins inside a character.
+pub fn check_told(tree: &[u8], text: &[u8], told: Encoding) -> Answer
+    ensures { λ r. ⌜ r ≡ answerTo (taken (now (text .entry)) told) (now (tree .entry)) (now (text .entry)) ⌝ }
 {
     if malformed(tree) {
         return Answer::Malformed;
@@ -472,9 +474,21 @@ pub fn check(tree: &[u8], text: &[u8]) -> Answer
     if LONGEST < text.len() {
         return Answer::TooLong;
     }
-    let e = utf8::check(text);
-    if utf8::number(e) != 0 {
-        return Answer::Broken(e);
+    if utf8::number(told) != 0 {
+        return Answer::Broken(told);
+    }
+    if !utf8::boundary(text, 0) {
+        return Answer::Broken(Encoding::Bad(0));
     }
     check_records(tree, text)
+}
+
+// The check of a tree and its text. The text is not looked at where 1 or its length comes first.
+pub fn check(tree: &[u8], text: &[u8]) -> Answer
+    ensures { λ r. ⌜ Checks (now (tree .entry)) (now (text .entry)) r ⌝ }
+{
+    if malformed(tree) | (LONGEST < text.len()) {
+        return check_told(tree, text, Encoding::Valid);
+    }
+    check_told(tree, text, utf8::check(text))
 }

@@ -1,34 +1,16 @@
--- `rules::check` meets its contract: with no rule in force the mode is 01's; and else the walk over the records that 01's check finds sound comes to the
--- first that breaks a rule, which is the answer, or 01's is.
-use Rattle.tree.specs.Bounds.{place-small}
-use Rattle.rules.specs.Whole.{as-plain, led, in-mode}
-use mathlib.Core.Bool.{_||_}
-use borrow.Author.Tests.{not-true}
-use native.Mathlib.Omega.{arith}
+-- `rules::check` meets its contract: 01's check is over the text's own encoding, and in the mode the answer is for the same.
+use Rattle.rules.specs.Whole.{Answered}
 use borrow.Author.Needs.{needs}
 use Rattle.rules.proofs.check.Statement.{statement}
 use Rattle.rules.proofs.check.Tie as tie
 
+in-mode-requires : tie.Need-in-mode-requires
+in-mode-requires c κs = record { encoding = c .check .ensures .encoding; answers = c .check .ensures .answers }
+
 returns : tie.Need-returns
 returns c =
-    let at-sqlite = c .before in
-    let at-check = at-sqlite .before in
-    let args = at-check .before .before .before .args in
-    as-plain _ _ _ _ (rw (at-sqlite .sqlite .ensures) at (not-true (args .mode .strict || at-sqlite .sqlite .result) (c .if1 .taken))) (at-check .check .ensures)
-
-sound-to-requires : tie.Need-sound-to-requires
-sound-to-requires c κs = place-small (c .before .before .check .ensures)
-
-rule-row-requires : tie.Need-rule-row-requires
-rule-row-requires c κs =
-    let at-check = c .before .before .before .check in
-    (omega arith, rw (c .sound-to .ensures) (led _ _ _ (at-check .ensures)))
-
-returns-2 : tie.Need-returns-2
-returns-2 c =
-    let at-sound-to = c .before .before .sound-to in
-    let at-check = c .before .before .before .before .before .check in
-    rw (c .ruled .ensures) (in-mode _ _ _ _ (at-check .ensures) _ (rw (at-sound-to .ensures) at (c .before .rule-row .ensures)))
+    let at-check = c .before .check in
+    record { encoding = at-check .ensures .encoding; encoded = at-check .ensures .encoded; answers = c .in-mode .ensures _ (at-check .ensures .answers) }
 
 pub check-spec : {M : Type 1} → statement M
-check-spec = tie.close (tie.spec (λ c κs. search needs) (λ c κs. search needs) returns sound-to-requires rule-row-requires (λ c κs. search needs) returns-2)
+check-spec = tie.close (tie.spec (λ c κs. search needs) in-mode-requires returns)
