@@ -113,7 +113,7 @@ module _ {out : List ℕ} {ls : List Lent} {r′ out′ : List ℕ} (all : Cross
 
 -- ---- render in any mode, where its number is 0
 module _ {m : Mode} {t x out : List ℕ} {o : Outcome} {out′ : List ℕ} (renders : RendersIn m t x out o out′) (success : numberOf o ≡ 0) where
-  outcome-is : o ≡ Done (length (textIn (m .edition) t x))
+  pub outcome-is : o ≡ Done (length (textIn (m .edition) t x))
   unfolding rendered refuses
   outcome-is = renders .answers ∙ by (refuses a) (ltb (length out) n) refl (ap numberOf (sym (renders .answers)) ∙ success)
     where

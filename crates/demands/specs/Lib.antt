@@ -3,3 +3,4 @@ pub mod Demands
 pub mod Halves
 pub mod Between
 pub mod Named
+pub mod Jobs

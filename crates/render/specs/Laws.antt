@@ -15,7 +15,7 @@ use Rattle.spelling.specs.Table.{bytes}
 use Rattle.stream.specs.Sink.{State, most}
 use Rattle.stream.specs.Laws.{count-fits}
 use Rattle.tree.specs.Check as tree
-use Rattle.tree.specs.Check.{ChecksIn, Checks}
+use Rattle.tree.specs.Check.{ChecksIn}
 use Rattle.tree.specs.Whole as whole
 use Rattle.tree.specs.Bounds.{place-small, admitted-short, number-small as tree-number-small}
 use Rattle.tree.specs.declared.Answer.{Answer}
@@ -26,8 +26,8 @@ use Rattle.pen.specs.Pen.{emit}
 use Rattle.pen.specs.Emit.{fresh, text-counted, text-stored}
 use Rattle.render.specs.declared.Outcome.{Outcome}
 use Rattle.render.specs.declared.Outcome.the-variants.{Done, Refused, NoRoom}
-use Rattle.render.specs.Render.{textIn, refuses, measured, rendered, outputAfter, MeasuresIn, RendersIn, Renders, numberOf, placeOf}
-use Rattle.render.specs.Steps.{counted, Writes, Drafted, Drafts}
+use Rattle.render.specs.Render.{textIn, refuses, measured, rendered, outputAfter, MeasuresIn, RendersIn, numberOf, placeOf}
+use Rattle.render.specs.Steps.{counted, Writes, Drafted}
 
 -- ---- the tokens of a tree, written by a fresh sink, are its text
 pub writes : (v : Edition) (t x w out : List ℕ) (st : State) → w ≡ bytes → length out ≤ most → st ≡ emit w (fresh, out) (tokensOf (inEdition t x v)) → Writes v t x out (st .0 .at) (st .1)
@@ -60,18 +60,11 @@ module _ {mode : Mode} {t x : List ℕ} {a : Answer} (c : ChecksIn mode t x a) (
       record { answer = a; checks = c; answers = rw (← is, eq-eqb m 0 z, q) }
 
 -- ---- the draft, and the copy of it
-module _ {mode : Mode} {t x : List ℕ} where
-  pub draft-refused : {a : Answer} {d : List ℕ} → MeasuresIn mode t x (Refused a) → Drafts mode t x (Refused a) d
-  draft-refused m = record { measures = m; drafted = λ n e. let z : _≡_ {A = ℕ} 0 1 = cc in absurd (omega arith) }
-
-  pub draft-done : {n : ℕ} (d : List ℕ) {d′ : List ℕ} → MeasuresIn mode t x (Done n) → d′ ≡ sets d 0 (textIn (mode .edition) t x) → Drafts mode t x (Done n) d′
-  draft-done {n} d {d′} m e = record { measures = m; drafted = λ k q h. begins h }
-    where
-      begins : Drafted (mode .edition) t x d′
-      begins h =
-          let text = textIn (mode .edition) t x in
-          let l : length d′ ≡ length d = ap length e ∙ length-sets d 0 text in
-          rw (e, sets-eq text d 0 (omega arith)) (take-append-seam text (drop (0 + length text) d))
+pub drafted : (v : Edition) (t x d d′ : List ℕ) → d′ ≡ sets d 0 (textIn v t x) → Drafted v t x d′
+drafted v t x d d′ e h =
+    let text = textIn v t x in
+    let l : length d′ ≡ length d = ap length e ∙ length-sets d 0 text in
+    rw (e, sets-eq text d 0 (omega arith)) (take-append-seam text (drop (0 + length text) d))
 
 pub copied : (v : Edition) (t x out d out′ : List ℕ) (n : ℕ) → n ≡ length (textIn v t x) → n ≤ length out → n ≤ length d → Drafted v t x d
     → out′ ≡ take n (take n d) ++ drop n out → out′ ≡ sets out 0 (textIn v t x)

@@ -2,3 +2,5 @@ pub mod Render
 pub mod Steps
 pub mod Laws
 pub mod Modes
+pub mod Jobs
+pub mod JobsLaws

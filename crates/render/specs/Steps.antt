@@ -5,11 +5,8 @@ use mathlib.Core.List.{List}
 use lib.ListN.{length, take}
 use lib.Seq.{sets}
 use Rattle.mode.specs.declared.Edition.{Edition}
-use Rattle.mode.specs.declared.Mode.{Mode}
 use Rattle.stream.specs.Sink.{count}
-use Rattle.render.specs.declared.Outcome.{Outcome}
-use Rattle.render.specs.declared.Outcome.the-variants.{Done}
-use Rattle.render.specs.Render.{textIn, MeasuresIn}
+use Rattle.render.specs.Render.{textIn}
 
 -- the count that the sink comes to
 unfoldable pub counted : Edition → List ℕ → List ℕ → ℕ
@@ -23,8 +20,3 @@ pub record Writes (v : Edition) (t x out : List ℕ) (n : ℕ) (out′ : List �
 -- a draft that has room for the text begins with it
 abbrev pub Drafted : Edition → List ℕ → List ℕ → List ℕ → Type 0
 Drafted v t x d = length (textIn v t x) ≤ length d → take (length (textIn v t x)) d ≡ textIn v t x
-
--- what measure answers, and the draft of a text that was measured
-pub record Drafts (m : Mode) (t x : List ℕ) (outcome : Outcome) (d : List ℕ) : Type 0 where
-  pub measures : MeasuresIn m t x outcome
-  pub drafted : (n : ℕ) → outcome ≡ Done n → Drafted (m .edition) t x d

@@ -1,17 +1,21 @@
 // The whole-tree calls (01, section 3): measure gives the length, render writes.
 //
-// Both check the tree first, and write the text to a draft, which counts what it has no room for. So the two cannot disagree.
+// Both check the tree first, and both write the text: what there is no room for is counted. So the two cannot disagree.
 ghost use mathlib.Core.Path.{_≡_};
 ghost use Prim.Native.Nat.{_≤_};
 ghost use lib.ListN.{length as length'};
 ghost use lib.Seq.{sets};
 ghost use Rattle.spelling.specs.Table.{bytes};
 ghost use Rattle.render.specs.Render.{textIn, MeasuresIn, RendersIn, numberOf, placeOf};
-ghost use Rattle.render.specs.Steps.{Writes, Drafted, Drafts};
+ghost use Rattle.tree.specs.Check.{ChecksIn};
+ghost use Rattle.render.specs.Steps.{Writes, Drafted};
 use mode::Edition;
 use mode::Mode;
 use stream::Sink;
 use tree::Answer;
+
+// Many trees at once.
+pub mod jobs;
 
 // 01's number for an output that is too short.
 const NO_ROOM: u64 = 8;
@@ -63,27 +67,18 @@ fn write(out: &mut [u8], pool: &[u8], tree: &[u8], text: &[u8], edition: Edition
     end.at
 }
 
-// The length of the text of a tree, or the check's refusal, with the pool of spellings lent. The text is written to a
-// draft, as much of it as there is room for.
-fn check_and_measure(draft: &mut [u8], pool: &[u8], tree: &[u8], text: &[u8], mode: Mode) -> Outcome
-    requires { ⌜ now pool ≡ bytes ⌝ }
-    ensures { λ r. ⌜ Drafts mode (now (tree .entry)) (now (text .entry)) r (now (draft .exit)) ⌝ }
-{
-    let answer = rules::check(tree, text, mode);
-    if tree::number(answer) != 0 {
-        return Outcome::Refused(answer);
-    }
-    let edition = mode.edition;
-    Outcome::Done(write(draft, pool, tree, text, edition))
-}
-
 // The length of the text of a tree, or the check's refusal: there is no room for a draft.
 pub fn measure(mode: Mode, tree: &[u8], text: &[u8]) -> Outcome
     ensures { λ r. ⌜ MeasuresIn mode (now (tree .entry)) (now (text .entry)) r ⌝ }
 {
+    let checked = rules::check(tree, text, mode);
+    if tree::number(checked) != 0 {
+        return Outcome::Refused(checked);
+    }
     let pool = spelling::pool();
     let mut nothing = [0u8; 0];
-    check_and_measure(&mut nothing, &pool, tree, text, mode)
+    let edition = mode.edition;
+    Outcome::Done(write(&mut nothing, &pool, tree, text, edition))
 }
 
 // The text of a tree, which has so many bytes, in the output: copied from its draft, if that has room for all of it.
@@ -106,21 +101,36 @@ fn fair_copy(
     }
 }
 
-// The text of a tree written to the output, or a refusal, which writes nothing. Most texts are short, and their draft
+// The text of a tree that the check answers this for, written to the output, or a refusal, which writes nothing. Most texts are short, and their draft
 // is copied; a longer one is written twice, the first time for its length.
+fn render_checked(
+    answer: Answer,
+    out: &mut [u8],
+    pool: &[u8],
+    tree: &[u8],
+    text: &[u8],
+    mode: Mode,
+) -> Outcome
+    requires { ⌜ (now pool ≡ bytes) × ChecksIn mode (now tree) (now text) answer ⌝ }
+    ensures { λ r. ⌜ RendersIn mode (now (tree .entry)) (now (text .entry)) (now (out .entry)) r (now (out .exit)) ⌝ }
+{
+    if tree::number(answer) != 0 {
+        return Outcome::Refused(answer);
+    }
+    let edition = mode.edition;
+    let mut draft = [0u8; DRAFT];
+    let length = write(&mut draft, pool, tree, text, edition);
+    if out.len() < length {
+        return Outcome::NoRoom(length);
+    }
+    fair_copy(out, &draft, pool, tree, text, edition, length);
+    Outcome::Done(length)
+}
+
+// The text of a tree written to the output, or a refusal, which writes nothing.
 pub fn render(mode: Mode, tree: &[u8], text: &[u8], out: &mut [u8]) -> Outcome
     ensures { λ r. ⌜ RendersIn mode (now (tree .entry)) (now (text .entry)) (now (out .entry)) r (now (out .exit)) ⌝ }
 {
     let pool = spelling::pool();
-    let mut draft = [0u8; DRAFT];
-    let measured = check_and_measure(&mut draft, &pool, tree, text, mode);
-    let Outcome::Done(length) = measured else {
-        return measured;
-    };
-    if out.len() < length {
-        return Outcome::NoRoom(length);
-    }
-    let edition = mode.edition;
-    fair_copy(out, &draft, &pool, tree, text, edition, length);
-    Outcome::Done(length)
+    render_checked(rules::check(tree, text, mode), out, &pool, tree, text, mode)
 }
