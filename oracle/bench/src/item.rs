@@ -33,7 +33,9 @@ pub struct Input {
 impl Item {
     /// None where the value's tree is refused.
     pub fn new(value: Box<dyn Encode>) -> Option<Item> {
-        let Sample { pair, tokens, text } = samples::of(&*value);
+        let Sample {
+            pair, tokens, text, ..
+        } = samples::of(&*value);
         let (tree, parts) = pair;
         let admitted = check(&tree, &parts).0 == 0;
         admitted.then(|| Item {
