@@ -34,11 +34,18 @@ impl Times {
     /// Each subject in turn, round after round.
     pub fn new(input: &Input, subjects: &[Subject]) -> Times {
         let mut room = Room::new(input);
-        let passes = |subject: &Subject| passes_in_a_turn(&mut room, *subject, input);
-        let passes: Vec<u32> = subjects.iter().map(passes).collect();
+        Times::of(subjects.len(), &mut |at| {
+            room.pass(subjects[at], black_box(input))
+        })
+    }
+
+    /// So many subjects in turn; the function makes one pass of the subject at a place.
+    pub fn of(subjects: usize, pass: &mut dyn FnMut(usize) -> usize) -> Times {
+        let passes = (0..subjects).map(|at| passes_in_a_turn(&mut || pass(at)));
+        let passes: Vec<u32> = passes.collect();
         let mut round = || {
-            let turns = subjects.iter().zip(&passes);
-            let turns = turns.map(|(&subject, &passes)| turn(&mut room, subject, input, passes));
+            let turns = passes.iter().enumerate();
+            let turns = turns.map(|(at, &passes)| turn(&mut || pass(at), passes));
             turns.collect()
         };
         let rounds = (0..ROUNDS).map(|_| round()).collect();
@@ -61,19 +68,19 @@ impl Times {
 }
 
 /// Doubled until they last long enough.
-fn passes_in_a_turn(room: &mut Room, subject: Subject, input: &Input) -> u32 {
+fn passes_in_a_turn(pass: &mut dyn FnMut() -> usize) -> u32 {
     let mut passes = 1;
-    while turn(room, subject, input, passes) * f64::from(passes) < TURN {
+    while turn(pass, passes) * f64::from(passes) < TURN {
         passes *= 2;
     }
     passes
 }
 
 /// Nanoseconds of one pass.
-fn turn(room: &mut Room, subject: Subject, input: &Input, passes: u32) -> f64 {
+fn turn(pass: &mut dyn FnMut() -> usize, passes: u32) -> f64 {
     let start = own_time();
     for _ in 0..passes {
-        black_box(room.pass(subject, black_box(input)));
+        black_box(pass());
     }
     (own_time() - start) / f64::from(passes)
 }

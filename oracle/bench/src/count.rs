@@ -1,6 +1,7 @@
 //! Instructions of one pass, counted by callgrind.
 
 use crate::inputs;
+use crate::jobs::{Batch, WAYS};
 use crate::subject::{Room, Subject, APPENDS, TEXTS};
 use std::hint::black_box;
 use std::process::Command;
@@ -8,15 +9,26 @@ use std::{env, io};
 
 /// The word before callgrind's count.
 const COUNT: &str = "Collected :";
+/// The word for the schema as jobs, in the place of an input.
+const JOBS: &str = "jobs";
 
 /// Of one input and subject by their places, in a run of this program under callgrind; none where that cannot be run.
 pub fn instructions(input: usize, subject: Subject) -> Option<u64> {
+    under_callgrind(&input.to_string(), place_of(subject))
+}
+
+/// Of the schema as jobs, in the way at a place.
+pub fn instructions_of_jobs(way: usize) -> Option<u64> {
+    under_callgrind(JOBS, way)
+}
+
+fn under_callgrind(input: &str, subject: usize) -> Option<u64> {
     let program = env::current_exe().ok()?;
     let output = Command::new("valgrind")
         .args(["--tool=callgrind", "--callgrind-out-file=/dev/null"])
         .arg("--toggle-collect=*counted*")
         .arg(program)
-        .args(["once", &input.to_string(), &place_of(subject).to_string()])
+        .args(["once", input, &subject.to_string()])
         .output()
         .ok()?;
     collected(&String::from_utf8_lossy(&output.stderr))
@@ -39,6 +51,9 @@ fn place_of(subject: Subject) -> usize {
 /// What is run under callgrind: one pass.
 pub fn once(input: &str, subject: &str) -> io::Result<()> {
     let number = |word: &str| word.parse::<usize>().map_err(io::Error::other);
+    if input == JOBS {
+        return once_as_jobs(number(subject)?);
+    }
     let (input, subject) = (number(input)?, number(subject)?);
     let input = inputs::usual().into_iter().nth(input);
     let (Some(input), Some(subject)) = (input, subjects().nth(subject)) else {
@@ -46,6 +61,15 @@ pub fn once(input: &str, subject: &str) -> io::Result<()> {
     };
     let mut room = Room::new(&input);
     counted(&mut || room.pass(subject, &input));
+    Ok(())
+}
+
+fn once_as_jobs(way: usize) -> io::Result<()> {
+    let Some(&way) = WAYS.get(way) else {
+        return Err(io::Error::other("no such way"));
+    };
+    let mut batch = Batch::of_schema();
+    counted(&mut || batch.pass(way));
     Ok(())
 }
 

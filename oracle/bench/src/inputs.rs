@@ -21,13 +21,17 @@ const TYPE: &str = "INTEGER";
 
 /// The four inputs that the goals are stated for.
 pub fn usual() -> Vec<Input> {
-    let whole = schema(TABLES, SEED).into_iter().map(boxed);
     vec![
-        Input::new("schema of 200 tables", items(whole)),
+        Input::new("schema of 200 tables", tables()),
         Input::new("one CREATE TABLE", items([boxed(usual_table())])),
         Input::new("mix of all statements", mix()),
         Input::new("one tree at the limits", items([boxed(limits())])),
     ]
+}
+
+/// The tables of the schema.
+pub fn tables() -> Vec<Item> {
+    items(schema(TABLES, SEED).into_iter().map(boxed))
 }
 
 /// Random statements, each variant as often as the others, but for those whose tree is refused.

@@ -5,16 +5,18 @@ mod count;
 mod deep;
 mod inputs;
 mod item;
+mod jobs;
 mod report;
 mod schema;
 mod stack;
 mod subject;
 
 use item::Input;
+use jobs::Batch;
 use std::{env, process};
 use subject::verify;
 
-const USAGE: &str = "usage: bench [times | instructions | stack]";
+const USAGE: &str = "usage: bench [times | jobs | instructions | stack]";
 
 fn main() {
     let words: Vec<String> = env::args().skip(1).collect();
@@ -22,10 +24,12 @@ fn main() {
     match words[..] {
         [] => {
             times();
+            many();
             stack();
             instructions();
         }
         ["times"] => times(),
+        ["jobs"] => many(),
         ["instructions"] => instructions(),
         ["stack"] => stack(),
         ["once", input, subject] => count::once(input, subject).unwrap_or_else(|error| {
@@ -42,11 +46,14 @@ fn fail(message: &str) -> ! {
 
 /// Both texts are equal before anything is timed.
 fn verified(inputs: &[Input]) {
-    for input in inputs {
-        if let Err(difference) = verify(input) {
-            eprintln!("{difference}");
-            process::exit(1);
-        }
+    inputs.iter().for_each(|input| told(verify(input)));
+}
+
+/// A difference ends the program.
+fn told(verified: Result<(), String>) {
+    if let Err(difference) = verified {
+        eprintln!("{difference}");
+        process::exit(1);
     }
 }
 
@@ -60,8 +67,19 @@ fn times() {
     report::growth(&growing);
 }
 
+/// Many trees at once.
+fn many() {
+    let mut schema = Batch::of_schema();
+    let mut growing = Batch::growing();
+    told(schema.verify());
+    growing.iter_mut().for_each(|batch| told(batch.verify()));
+    report::jobs(&mut schema);
+    report::growth_of_jobs(&mut growing);
+}
+
 fn instructions() {
     report::instructions(&inputs::usual());
+    report::instructions_of_jobs(&mut Batch::of_schema());
 }
 
 fn stack() {

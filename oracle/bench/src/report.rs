@@ -3,6 +3,7 @@
 use crate::clock::Times;
 use crate::count;
 use crate::item::{done, Input, Item};
+use crate::jobs::{Batch, Way, WAYS};
 use crate::stack;
 use crate::subject::{Subject, APPENDS, TEXTS};
 use model::record::MOST_BYTES;
@@ -15,6 +16,10 @@ const WORD: usize = 32;
 
 /// The subjects of the growth.
 const GROWING: [Subject; 3] = [Subject::CrateTokens, Subject::Measure, Subject::Render];
+
+/// The ways of the growth of jobs, and the place of the call itself among them.
+const GROWTH_OF_JOBS: [Way; 3] = [Way::CrateValue, Way::SharedText, Way::Jobs];
+const JOBS: usize = 2;
 
 /// Microseconds of a pass over each input, and how render stands to the crate.
 pub fn texts(inputs: &[Input]) {
@@ -65,6 +70,68 @@ pub fn growth(series: &[Vec<Input>]) {
             input.name
         );
     }
+}
+
+/// Microseconds of all tables at once, beside the crate and beside single calls.
+pub fn jobs(batch: &mut Batch) {
+    let times = Times::of(WAYS.len(), &mut |at| batch.pass(WAYS[at]));
+    let [value, own, shared, ample, exact] = [0, 1, 2, 3, 4].map(|at| micro(times.best(at)));
+    println!("\n{}, microseconds:\n", told_batch(batch));
+    println!("| | Crate: value to String | single calls, each with its own text | single calls, one text | jobs, ample room | jobs, exact room |");
+    println!("|---|---|---|---|---|---|");
+    println!("| best round | {value} | {own} | {shared} | {ample} | {exact} |");
+    for (name, jobs) in [("jobs, ample room", 3), ("jobs, exact room", 4)] {
+        let ratios = [0, 1, 2].map(|to| format!("{:.2}", times.ratio(jobs, to)));
+        println!("| {name} / this | {} | | |", ratios.join(" | "));
+    }
+}
+
+fn told_batch(batch: &Batch) -> String {
+    format!(
+        "Schema of {} tables as jobs over one text of {} bytes ({} records, {} bytes written)",
+        batch.count(),
+        batch.text(),
+        batch.records(),
+        batch.written()
+    )
+}
+
+/// How the times of jobs over one text grow with their records: a constant, and so much a record.
+pub fn growth_of_jobs(batches: &mut [Batch]) {
+    let ways = GROWTH_OF_JOBS.len();
+    let times = Times::of(batches.len() * ways, &mut |at| {
+        batches[at / ways].pass(GROWTH_OF_JOBS[at % ways])
+    });
+    let best = |batch: usize, way: usize| times.best(batch * ways + way);
+    let records = |batch: usize| batches[batch].records() as f64;
+    let last = batches.len() - 1;
+    let each = (best(last, JOBS) - best(0, JOBS)) / (records(last) - records(0));
+    let constant = best(0, JOBS) - each * records(0);
+    let text = batches[0].text();
+    println!("\nOne text of {text} bytes, microseconds:\n");
+    println!("| Jobs | Records | Crate: value to String | single calls, one text | jobs | constant + {each:.2} ns a record |");
+    println!("|---|---|---|---|---|---|");
+    for (at, batch) in batches.iter().enumerate() {
+        let [value, single, jobs] = [0, 1, JOBS].map(|way| micro(best(at, way)));
+        let line = micro(constant + each * records(at));
+        let (count, records) = (batch.count(), batch.records());
+        println!("| {count} | {records} | {value} | {single} | {jobs} | {line} |");
+    }
+    println!("\nThe constant is {} microseconds.", micro(constant));
+}
+
+/// Instructions of one pass over the schema in each way, where callgrind is to be had.
+pub fn instructions_of_jobs(batch: &mut Batch) {
+    let counts: Option<Vec<u64>> = (0..WAYS.len()).map(count::instructions_of_jobs).collect();
+    let Some(counts) = counts else {
+        println!("valgrind cannot be run");
+        return;
+    };
+    let counts: Vec<String> = counts.iter().map(u64::to_string).collect();
+    println!("\n{}, instructions:\n", told_batch(batch));
+    println!("| Crate: value to String | single calls, each with its own text | single calls, one text | jobs, ample room | jobs, exact room |");
+    println!("|---|---|---|---|---|");
+    println!("| {} |", counts.join(" | "));
 }
 
 /// Instructions of one pass, where callgrind is to be had.

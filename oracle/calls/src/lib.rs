@@ -42,6 +42,42 @@ extern "C" {
         value: *const u8,
         value_len: usize,
     ) -> u64;
+    pub fn kinyandoma_render_jobs(
+        options: u32,
+        jobs: *mut Job,
+        count: usize,
+        trees: *const u8,
+        trees_len: usize,
+        text: *const u8,
+        text_len: usize,
+        out: *mut u8,
+        out_len: usize,
+    ) -> u64;
+}
+
+/// One tree of a shared buffer, and what became of it.
+#[repr(C)]
+#[derive(Clone, Copy, Debug, Default, PartialEq)]
+pub struct Job {
+    /// Where the tree begins in the buffer, and how many bytes it has. The call leaves both as they are.
+    pub tree_start: u64,
+    pub tree_len: u64,
+    /// What the single call answers: number and place.
+    pub refusal: u64,
+    pub place: u64,
+    /// Where in the output the tree's text begins; of a refused one, where the next begins.
+    pub out_start: u64,
+}
+
+impl Job {
+    /// A job for these bytes of the buffer, before the call.
+    pub fn new(tree_start: u64, tree_len: u64) -> Job {
+        Job {
+            tree_start,
+            tree_len,
+            ..Job::default()
+        }
+    }
 }
 
 /// The bytes of a stream record: the bit, then count, line and column.

@@ -6,6 +6,7 @@ use model::grammar::{KINDS, LIST, NONE, NUMBER, REPLACE, RUN};
 use model::options::Edition;
 use model::record::{Record, SIZE};
 use model::samples::{drawn_in, sample};
+use model::shared::Shared;
 use model::{editions, grow, options, sources};
 use tokens::random::Random;
 
@@ -183,23 +184,14 @@ fn element(mut case: Case) -> Case {
 
 /// A LIST of trees. Each names its own part of the text still.
 fn joined(cases: &[Case]) -> Case {
-    let mut whole = Case::from((
-        Record::new(LIST, cases.len() as u16).bytes().to_vec(),
-        vec![],
-    ));
+    let mut whole = Shared {
+        trees: Record::new(LIST, cases.len() as u16).bytes().to_vec(),
+        text: vec![],
+    };
     for case in cases {
-        let mut moved = case.clone();
-        let by = whole.text.len() as u32;
-        for index in 0..moved.records() {
-            moved.edit(index, |record| {
-                let named = matches!(record.kind, 2 | 4) && (record.start, record.length) != (0, 0);
-                record.start += if named { by } else { 0 };
-            });
-        }
-        whole.tree.extend(moved.tree);
-        whole.text.extend(moved.text);
+        whole.add(&case.tree, &case.text);
     }
-    whole
+    Case::from((whole.trees, whole.text))
 }
 
 /// A table before a chain of records, or behind it: the only way to have 6 beside such a text, which is never deep itself.

@@ -160,12 +160,7 @@ fn number_in(class: &Class, number: i64) -> bool {
 
 /// True of a record that has no text part.
 fn part_inside(record: &Record, text: &str) -> bool {
-    let has_part = match record.kind {
-        TEXT => true,
-        TOKEN => has_value(record),
-        _ => false,
-    };
-    !has_part || part(record, text).is_some()
+    !record.names_part() || part(record, text).is_some()
 }
 
 /// The text part that a record names, if both ends are inside the text, or at its end, and not inside a character.

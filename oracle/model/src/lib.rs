@@ -16,6 +16,7 @@ pub mod record;
 pub mod row;
 pub mod rowid;
 pub mod samples;
+pub mod shared;
 pub mod source;
 pub mod sources;
 pub mod tally;

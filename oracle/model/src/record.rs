@@ -1,5 +1,7 @@
 //! The 16 bytes of a record.
 
+use crate::grammar::{TEXT, TOKEN};
+
 pub const SIZE: usize = 16;
 pub const MARK: [u8; 2] = [0x53, 0x4E];
 
@@ -53,6 +55,11 @@ impl Record {
         let mut record = Record::new(kind, 0);
         record.set_as_number(number);
         record
+    }
+
+    /// Whether it names a part of the text: a TEXT does, and a TOKEN with a value.
+    pub fn names_part(&self) -> bool {
+        self.kind == TEXT || self.kind == TOKEN && self.flags & VALUE_PRESENT != 0
     }
 
     /// Bytes 8 to 15 as one signed number.

@@ -2,8 +2,7 @@
 
 use model::damage::text::{filled_to, BAD};
 use model::damage::Case;
-use model::grammar::{TEXT, TOKEN};
-use model::record::{Record, MOST_BYTES, VALUE_PRESENT};
+use model::record::{Record, MOST_BYTES};
 use std::ops::Range;
 use tokens::random::Random;
 use tokens::values::any_kind;
@@ -55,11 +54,10 @@ const CHANGES: [(&str, Change); 6] = [
     ("cut off at the end", cut_off),
 ];
 
-/// The part that a record names, if it names one: a TEXT does, and a TOKEN with a value.
+/// The part that a record names, if it names one.
 fn part(record: &Record) -> Option<Range<usize>> {
-    let with_value = record.kind == TOKEN && record.flags & VALUE_PRESENT != 0;
     let (start, length) = (record.start as usize, record.length as usize);
-    (record.kind == TEXT || with_value).then_some(start..start + length)
+    record.names_part().then_some(start..start + length)
 }
 
 /// The records that name a part, each with its part.
@@ -270,7 +268,8 @@ fn cut_off(random: &mut Random, text: &mut [u8], gaps: &[Range<usize>]) {
 #[cfg(test)]
 mod tests {
     use super::*;
-    use model::grammar::RUN;
+    use model::grammar::{RUN, TEXT, TOKEN};
+    use model::record::VALUE_PRESENT;
 
     /// `abcdefgh`: a TOKEN with a value names `bc`, a TEXT `cd`, an empty TEXT nothing at 6; a TOKEN without one names nothing.
     fn case() -> Case {

@@ -1,17 +1,12 @@
 //! The text part of a TEXT or of a TOKEN's value.
 
 use super::Case;
-use crate::grammar::{TEXT, TOKEN};
-use crate::record::{Record, VALUE_PRESENT};
+use crate::record::Record;
 use tokens::random::Random;
-
-fn has_part(record: &Record) -> bool {
-    record.kind == TEXT || (record.kind == TOKEN && record.flags & VALUE_PRESENT != 0)
-}
 
 /// Gives one part a start and an end.
 fn put(random: &mut Random, case: &mut Case, start: usize, end: usize) {
-    if let Some(index) = case.one(random, has_part) {
+    if let Some(index) = case.one(random, Record::names_part) {
         case.edit(index, |record| {
             record.start = start as u32;
             record.length = end.wrapping_sub(start) as u32;
@@ -23,7 +18,7 @@ pub fn by_a_little(random: &mut Random, case: &mut Case) {
     let by = random.between(1, 3) as u32;
     let by = random.pick(&[by, by.wrapping_neg()]);
     let which = random.below(3);
-    if let Some(index) = case.one(random, has_part) {
+    if let Some(index) = case.one(random, Record::names_part) {
         case.edit(index, |record| {
             if which != 0 {
                 record.start = record.start.wrapping_add(by);
@@ -99,7 +94,7 @@ pub fn wraps(random: &mut Random, case: &mut Case) {
         (0, 1 << 16),
         (1 << 24, 0),
     ]);
-    if let Some(index) = case.one(random, has_part) {
+    if let Some(index) = case.one(random, Record::names_part) {
         case.edit(index, |record| {
             record.start = start;
             record.length = length;
