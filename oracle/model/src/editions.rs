@@ -194,7 +194,8 @@ fn body(random: &mut Random) -> CreateTableBody {
     body
 }
 
-fn check(source: String) -> NamedTableConstraint {
+/// A CHECK with this source.
+pub fn check(source: String) -> NamedTableConstraint {
     NamedTableConstraint {
         name: None,
         constraint: TableConstraint::Check {

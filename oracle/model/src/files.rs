@@ -7,11 +7,16 @@ use std::io::{self, ErrorKind, Read, Write};
 pub fn write_case(out: &mut impl Write, case: &Case) -> io::Result<()> {
     out.write_all(&case.options.to_le_bytes())?;
     for bytes in [&case.tree, &case.text] {
-        let length = u32::try_from(bytes.len()).expect("a length of four bytes");
-        out.write_all(&length.to_le_bytes())?;
+        write_length(out, bytes.len())?;
     }
     out.write_all(&case.tree)?;
     out.write_all(&case.text)
+}
+
+/// In four bytes.
+pub fn write_length(out: &mut impl Write, length: usize) -> io::Result<()> {
+    let length = u32::try_from(length).expect("a length of four bytes");
+    out.write_all(&length.to_le_bytes())
 }
 
 /// The next case, or none at the end.

@@ -8,6 +8,7 @@ pub mod files;
 pub mod fixed;
 pub mod grammar;
 pub mod grow;
+pub mod jobs;
 pub mod judge;
 pub mod options;
 pub mod outline;

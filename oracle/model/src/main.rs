@@ -1,6 +1,7 @@
 //! Writes cases and the model's answers, judges answers, tells what the good trees hold.
 
-use model::damage::Case;
+use model::jobs::listed;
+use model::samples::Judged;
 use model::{files, fixed, judge, row, tally, texts};
 use std::io::{self, BufReader, BufWriter, Write};
 use std::{env, fs, process};
@@ -10,7 +11,8 @@ const USAGE: &str = "usage: model cases COUNT SEED INPUT-FILE EXPECTED-FILE
        model answer
        model judge COUNT SEED
        model kinds COUNT SEED
-       model texts INPUT-FILE EXPECTED-FILE";
+       model texts INPUT-FILE EXPECTED-FILE
+       model jobs INPUT-FILE EXPECTED-FILE";
 
 fn main() {
     let words: Vec<String> = env::args().skip(1).collect();
@@ -24,6 +26,7 @@ fn main() {
         ["judge", count, seed] => judge_answers(number(count), number(seed)),
         ["kinds", count, seed] => kinds(number(count), number(seed)),
         ["texts", input, expected] => write_texts(input, expected),
+        ["jobs", input, expected] => write_jobs(input, expected),
         _ => fail(USAGE),
     };
     done.unwrap_or_else(|error| fail(&error.to_string()));
@@ -35,23 +38,31 @@ fn number<T: std::str::FromStr>(word: &str) -> T {
 
 fn write_cases(count: usize, seed: u64, input: &str, expected: &str) -> io::Result<()> {
     let cases = fixed::all(count, seed);
-    let lines = cases.iter().map(|case| (case, files::answer(case)));
-    write_lines(lines.collect(), input, expected)
+    write_lines(&cases, files::write_case, files::answer, input, expected)
 }
 
 fn write_texts(input: &str, expected: &str) -> io::Result<()> {
-    let all = texts::all();
-    let lines = all.iter().map(|judged| (&judged.case, texts::line(judged)));
-    write_lines(lines.collect(), input, expected)
+    let write = |out: &mut Vec<u8>, judged: &Judged| files::write_case(out, &judged.case);
+    write_lines(&texts::all(), write, texts::line, input, expected)
+}
+
+fn write_jobs(input: &str, expected: &str) -> io::Result<()> {
+    write_lines(&listed::all(), listed::write, listed::line, input, expected)
 }
 
 /// Cases, and a line for each.
-fn write_lines(cases: Vec<(&Case, String)>, input: &str, expected: &str) -> io::Result<()> {
+fn write_lines<C>(
+    cases: &[C],
+    write: impl Fn(&mut Vec<u8>, &C) -> io::Result<()>,
+    line: impl Fn(&C) -> String,
+    input: &str,
+    expected: &str,
+) -> io::Result<()> {
     let mut bytes = Vec::new();
     let mut lines = String::new();
-    for (case, line) in &cases {
-        files::write_case(&mut bytes, case)?;
-        lines += &format!("{line}\n");
+    for case in cases {
+        write(&mut bytes, case)?;
+        lines += &format!("{}\n", line(case));
     }
     fs::write(input, &bytes)?;
     fs::write(expected, lines)?;
