@@ -2,7 +2,7 @@
 # Builds the oracle, holds the stored files to it, and compares the library and the grammar's entries with the crate,
 # the check with the model, what it says of CHECK sources and of without-rowid texts with two readings of each, what the
 # SQLite edition writes with SQLite itself where `sqlite3` is on PATH, and what append writes with the reading rule.
-# It sees that bytes of a text that no record names change nothing.
+# It sees that bytes of a text that no record names change nothing, and that many trees at once are the single calls.
 # `run.sh --store` writes the stored files instead, and ends.
 # `run.sh --bench` tells the speed, the stack and the size of the library beside the crate's instead, and ends.
 set -euo pipefail
@@ -15,6 +15,8 @@ TREES=crates/replay_trees/stdin
 ANSWERS=crates/replay_trees/stdout
 TEXTS=crates/replay_text/stdin
 WRITTEN=crates/replay_text/stdout
+LISTS=crates/replay_jobs/stdin
+SAID=crates/replay_jobs/stdout
 
 # Folders of the definitions that the entries are read from.
 GRAMMAR=crates/grammar/specs
@@ -31,6 +33,7 @@ ENCODED=${ENCODED:-5000000}
 SOURCES=${SOURCES:-2000000}
 EDITIONS=${EDITIONS:-1000000}
 NAMED=${NAMED:-1000000}
+JOBS=${JOBS:-1000000}
 TABLES=${TABLES:-10000}
 ENTRIES=${ENTRIES:-1000000}
 STREAMS=${STREAMS:-1000000}
@@ -74,6 +77,7 @@ make_files() {
     "$programs/tokens" cases "$made/cases" "$made/expected"
     "$programs/model" cases "$LISTED" "$LISTED_SEED" "$made/trees" "$made/answers"
     "$programs/model" texts "$made/texts" "$made/written"
+    "$programs/model" jobs "$made/lists" "$made/said"
 }
 
 store() {
@@ -121,6 +125,8 @@ for_each_file() {
     "$1" answers "$ANSWERS"
     "$1" texts "$TEXTS"
     "$1" written "$WRITTEN"
+    "$1" lists "$LISTS"
+    "$1" said "$SAID"
 }
 
 check_sources
@@ -169,6 +175,9 @@ echo "the two editions, every spelling of what they differ in and random trees, 
 
 echo "bytes that no record names, changed: the same answers and outputs:"
 "$programs/compare" named "$NAMED" "$SEED"
+
+echo "many trees at once, against the model of a list of jobs and against single calls:"
+"$programs/compare" jobs "$JOBS" "$SEED"
 
 if command -v sqlite3 > /dev/null; then
     echo "what the SQLite edition writes, handed to SQLite itself:"

@@ -1,7 +1,7 @@
 //! Plants each fault in the stand-ins and sees that the comparison finds it.
 
 use crate::trees::stand_in::{exchange, faulty_entries};
-use crate::{compare_all, editions, encoding, fuzz, named, numbers, sources, trees, Extent};
+use crate::{compare_all, editions, encoding, fuzz, jobs, named, numbers, sources, trees, Extent};
 use model::record::Record;
 use model::samples::Judged;
 use model::texts;
@@ -150,6 +150,24 @@ faults! {
         ByteBeforePart
         FirstByteOfTextCounts
         OnlyPartsChecked;
+    JOBS:
+        RefusedEndsWalk
+        NoRoomEndsWalk
+        RefusedStartsAtZero
+        NextOneLater
+        OutsidePlaceIsStart
+        OutsideAfterText
+        SumWraps
+        LowHalfOnly
+        WrittenPastRoom
+        CutAtRoom
+        RoomFromStart
+        PlaceAndRefusalExchanged
+        RefusedIsCounted
+        JobPartTouched
+        TextOfFirstJobOnly
+        JobsWithoutOptions
+        ByteBehindLast;
     NUMBERS:
         OneSubtractionTooFew
         PowerLeftOut
@@ -173,6 +191,8 @@ const STRICT: u64 = 20_000;
 const IN_EDITIONS: u64 = 20_000;
 /// Random trees, for each fault that looks at bytes that nobody named.
 const WITH_UNNAMED: u64 = 20_000;
+/// Random lists, for each fault of many trees at once.
+const LISTS: u64 = 20_000;
 /// Calls of the fuzz run, for each fault.
 const FUZZED: u64 = 1_000_000;
 
@@ -196,11 +216,13 @@ pub fn try_all(whole: bool) -> bool {
     let by_editions = [EDITIONS, &[Fault::OperatorQuotesDoubled]].concat();
     let editions = all_found(&by_editions, whole, &difference_in_editions);
     let named = all_found(NAMED, whole, &difference_in_named);
+    let jobs = all_found(JOBS, whole, &difference_in_jobs);
     let by_fuzz = [
-        STREAM, APPEND, POSITION, TREES, ENCODING, SOURCES, EDITIONS, NAMED,
+        STREAM, APPEND, POSITION, TREES, ENCODING, SOURCES, EDITIONS, NAMED, JOBS,
     ];
     let fuzzed = all_found(&by_fuzz.concat(), whole, &difference_in_fuzz);
-    append && trees && entries && numbers && encoding && sources && editions && named && fuzzed
+    let of_trees = trees && entries && numbers && encoding && sources && editions && named;
+    append && of_trees && jobs && fuzzed
 }
 
 /// The difference that is found with a fault, if any is.
@@ -267,6 +289,11 @@ fn difference_in_editions(fault: usize) -> Option<String> {
 fn difference_in_named(fault: usize) -> Option<String> {
     PLANTED.store(fault, Ordering::Relaxed);
     named::compare(WITH_UNNAMED, SEED).err()
+}
+
+fn difference_in_jobs(fault: usize) -> Option<String> {
+    PLANTED.store(fault, Ordering::Relaxed);
+    jobs::compare(LISTS, SEED).err()
 }
 
 fn difference_in_fuzz(fault: usize) -> Option<String> {

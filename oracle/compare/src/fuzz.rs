@@ -8,21 +8,27 @@ mod mutate;
 mod pool;
 
 use crate::crash;
-use crate::guarded::{Fence, Fences, SHIFTS};
+use crate::guarded::{any_fence, Fence, Fences};
+use crate::jobs;
 use crate::report;
 use crate::trees;
 pub use judge::Judge;
 #[cfg(feature = "selftest")]
 pub use judge::SOURCES;
-use pool::Pool;
+pub use pool::{good, Pool};
 use std::fmt;
 use tokens::random::Random;
+
+/// One turn in so many is a list of jobs; of the others, one in so many is a tree.
+const JOBS: usize = 20;
+const TREES: usize = 3;
 
 /// What was called without a difference.
 #[derive(Default)]
 pub struct Counts {
     appended: report::Counts,
     trees: trees::Counts,
+    jobs: jobs::Counts,
     /// Lent parts between known bytes, behind a page, before a page.
     fences: [u64; 3],
 }
@@ -36,9 +42,12 @@ pub fn compare(calls: u64, seed: u64) -> Result<Counts, String> {
     let mut pool = Pool::default();
     while counts.calls() < calls {
         crash::at(counts.calls());
-        match random.one_in(3) {
-            true => tree(&judge, &mut pool, &mut random, &mut counts)?,
-            false => appends::compare(&mut random, &mut counts)?,
+        if random.one_in(JOBS) {
+            list(&judge, &pool, &mut random, &mut counts)?;
+        } else if random.one_in(TREES) {
+            tree(&judge, &mut pool, &mut random, &mut counts)?;
+        } else {
+            appends::compare(&mut random, &mut counts)?;
         }
     }
     Ok(counts)
@@ -59,9 +68,21 @@ fn tree(
     held.map_err(|difference| difference.to_string())
 }
 
+/// One list of jobs, and all calls that are made for it.
+fn list(
+    judge: &Judge,
+    pool: &Pool,
+    random: &mut Random,
+    counts: &mut Counts,
+) -> Result<(), String> {
+    let fences = [(); 4].map(|()| counts.fence(random));
+    let around = jobs::within(fences);
+    jobs::compare_one(judge, pool, &around, random, &mut counts.jobs)
+}
+
 impl Counts {
     fn calls(&self) -> u64 {
-        self.appended.total() + self.trees.calls()
+        self.appended.total() + self.trees.calls() + self.jobs.calls()
     }
 
     /// Draws how three parts are lent.
@@ -70,16 +91,7 @@ impl Counts {
     }
 
     fn fence(&mut self, random: &mut Random) -> Fence {
-        let drawn = match random.below(4) {
-            0 => Fence::Bytes(random.below(SHIFTS)),
-            1 => Fence::PageBefore,
-            _ => Fence::PageAfter,
-        };
-        // The faulty calls of the self-test write beyond what is lent, and the known bytes are to tell.
-        let fence = match cfg!(feature = "selftest") {
-            true => Fence::Bytes(random.below(SHIFTS)),
-            false => drawn,
-        };
+        let fence = any_fence(random);
         self.fences[sort(fence)] += 1;
         fence
     }
@@ -100,6 +112,11 @@ impl fmt::Display for Counts {
         writeln!(f, "parts lent between known bytes: {bytes}, with a closed page before: {before}, with one behind: {after}")?;
         let mut calls = vec![("append", self.appended.by_number())];
         calls.extend(self.trees.by_call());
+        let jobs = format!(
+            "render_jobs, {} calls: jobs",
+            trees::told(self.jobs.calls())
+        );
+        calls.push((&jobs, self.jobs.by_number()));
         write!(f, "\n{}", trees::answers(&calls))
     }
 }

@@ -32,6 +32,20 @@ pub fn fences(random: &mut Random) -> Fences {
     [fence(random), fence(random), known(random)]
 }
 
+/// How any part is lent, an output too: half of them end where nobody may touch. In the self-test between known bytes always:
+/// its faulty calls write beyond what is lent, and the known bytes are to tell.
+pub fn any_fence(random: &mut Random) -> Fence {
+    let drawn = match random.below(4) {
+        0 => Fence::Bytes(random.below(SHIFTS)),
+        1 => Fence::PageBefore,
+        _ => Fence::PageAfter,
+    };
+    match cfg!(feature = "selftest") {
+        true => Fence::Bytes(random.below(SHIFTS)),
+        false => drawn,
+    }
+}
+
 pub struct Guarded {
     memory: Memory,
     before: usize,

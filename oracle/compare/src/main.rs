@@ -10,6 +10,7 @@ mod faults;
 mod fuzz;
 mod guarded;
 mod hex;
+mod jobs;
 mod named;
 mod numbers;
 mod pages;
@@ -36,6 +37,7 @@ const USAGE: &str = "usage: compare [TOKENS [REFUSED-CALLS [SEED]]]
        compare sources COUNT SEED
        compare editions COUNT SEED
        compare named COUNT SEED
+       compare jobs COUNT SEED
        compare sqlite COUNT SEED
        compare reading COUNT SEED
        compare fuzz CALLS SEED";
@@ -60,6 +62,7 @@ fn main() {
         Some("sources") => compare_random(&words[1..], &sources::compare),
         Some("editions") => compare_random(&words[1..], &editions::compare),
         Some("named") => compare_random(&words[1..], &named::compare),
+        Some("jobs") => compare_random(&words[1..], &jobs::compare),
         Some("sqlite") => compare_random(&words[1..], &sqlite::compare),
         Some("reading") => compare_random(&words[1..], &readable::compare),
         Some("fuzz") => compare_random(&words[1..], &fuzz::compare),

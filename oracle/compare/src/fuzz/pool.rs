@@ -137,7 +137,7 @@ impl Pool {
 }
 
 /// Grown from the grammar, from a value of the crate's own types, a table with CHECKs, or what the editions differ in.
-fn good(random: &mut Random) -> Case {
+pub fn good(random: &mut Random) -> Case {
     match random.below(9) {
         0 => sample(random).pair.into(),
         1 => sources::table(random).into(),

@@ -12,10 +12,10 @@ use entries::interpret::{node, Corners};
 use entries::shape::Shape;
 use entries::{read, written, Grammar};
 use model::check::{check, DEEPEST};
-use model::grammar::{LIST, TEXT, TOKEN};
+use model::grammar::LIST;
 use model::options::Edition;
 use model::outline::outline;
-use model::record::{Record, MOST_BYTES, SIZE, VALUE_PRESENT};
+use model::record::{Record, MOST_BYTES, SIZE};
 use std::slice::{from_raw_parts, from_raw_parts_mut};
 use std::sync::{LazyLock, RwLock};
 use tokens::encoding::{Refusal, CUT_OFF, NOT_UTF8};
@@ -146,7 +146,8 @@ fn spoil(fault: Fault, out: &mut [u8]) {
     }
 }
 
-fn rendered(options: u32, tree: &[u8], text: &[u8]) -> Result<Vec<u8>, Refusal> {
+/// The text of a tree, or its refusal.
+pub fn rendered(options: u32, tree: &[u8], text: &[u8]) -> Result<Vec<u8>, Refusal> {
     let text = &seen(tree, text)[..];
     let edition = edition::of(options);
     let without = strict::refusal(options, tree, text, refusal(tree, text));
@@ -183,9 +184,8 @@ fn misread(tree: &[u8], text: &[u8]) -> Vec<u8> {
     let ascii = |place: usize| text.get(place).is_some_and(u8::is_ascii);
     for index in 0..tree.len() / SIZE {
         let mut record = Record::read(&tree, index).expect("a whole record");
-        let with_value = record.kind == TOKEN && record.flags & VALUE_PRESENT != 0;
         let (start, length) = (record.start as usize, record.length as usize);
-        if record.kind != TEXT && !with_value || length == 0 {
+        if !record.names_part() || length == 0 {
             continue;
         }
         let behind = planted(Fault::ByteBehindPart) && ascii(start + length);
