@@ -1,16 +1,19 @@
 /* Kinyandoma: schema text, to the byte. The calls of libkinyandoma.a (rt staticlib kinyandoma), for x86-64 Linux.
  *
- * Lending. Bytes are lent as a pointer and a length, in the order of the arguments. A call reads and writes only what
- * is lent to it, keeps nothing afterwards, and allocates nothing. Each pointer is valid for its length and not null,
- * also where the length is 0; no length is over 2^63 - 1; and what a call may write (`out`, `rec`) overlaps nothing else
- * that is lent to the same call. Nothing else is asked of a caller: any bytes, and any length, are answered.
+ * Lending. Bytes are lent as a pointer and a length, in the order of the arguments; jobs as a pointer and their number. A
+ * call reads and writes only what is lent to it, keeps nothing afterwards, and allocates nothing. Each pointer is valid for
+ * its length and not null, also where the length is 0; no length is over 2^63 - 1 bytes; and what a call may write (`out`,
+ * `rec`, `jobs`) overlaps nothing else that is lent to the same call. Nothing else is asked of a caller: any bytes, and any
+ * length, are answered.
  *
- * Answers. A call answers number * 2^32 + place: answer >> 32 is the number, answer & 0xffffffff the place.
+ * Answers. A call answers number * 2^32 + place: answer >> 32 is the number, answer & 0xffffffff the place. Only
+ * kinyandoma_render_jobs answers otherwise, and writes number and place into each job.
  *
  *   number  when                                                                        place
  *   0       done                                                                        length of the text;
  *                                                                                       append: bytes added
  *   1       the tree is empty, over 65536 bytes, or not a multiple of 16;               0
+ *           jobs: the job is not inside the tree buffer, too;
  *           append: the record is malformed, its count past the end of out, or
  *           its line or its column larger than its count
  *   2       the text or value is over 65536 bytes (place 65536; tested first),          first byte that begins no
@@ -30,7 +33,7 @@
  *   12      the text or value is cut off: it ends in the middle of a character          first byte of that character
  *
  * The first that fits is answered. For a tree: 1, 2 or 12, then the records by index, and at each 3, 4, 5, 9, 10, 6; then
- * 7; then 8. For append: 1, 4, 2 or 12, 8. A place never exceeds 32 bits.
+ * 7; then 8. For a job the same. For append: 1, 4, 2 or 12, 8. A place never exceeds 32 bits.
  *
  * Of a text that is not UTF-8, 12 says that more bytes could have made it UTF-8 and 2 that none could: the bytes from
  * the place to the end are the beginning of some character, or they are not. E2 82 at the end is 12; F0 80, ED A0 and C0
@@ -55,8 +58,8 @@ uint64_t kinyandoma_measure(const uint8_t *tree, size_t tree_len, const uint8_t 
 uint64_t kinyandoma_render(const uint8_t *tree, size_t tree_len, const uint8_t *text, size_t text_len, uint8_t *out,
                            size_t out_len);
 
-/* Options of kinyandoma_measure_with and kinyandoma_render_with: flags, joined with `|`. Other bits are ignored. With 0 the
- * two answer and write as kinyandoma_measure and kinyandoma_render do. */
+/* Options of kinyandoma_measure_with, kinyandoma_render_with and kinyandoma_render_jobs: flags, joined with `|`. Other bits
+ * are ignored. With 0 the first two answer and write as kinyandoma_measure and kinyandoma_render do. */
 
 /* Refuse, with 9, a CHECK whose source would swallow the bracket behind it: a TEXT in a Check (103) that ends inside a block
  * comment or inside a quote. One that ends inside a line comment is written, since a newline is written behind it. A source
@@ -78,6 +81,29 @@ uint64_t kinyandoma_measure_with(uint32_t options, const uint8_t *tree, size_t t
 /* As kinyandoma_render, with options. */
 uint64_t kinyandoma_render_with(uint32_t options, const uint8_t *tree, size_t tree_len, const uint8_t *text,
                                 size_t text_len, uint8_t *out, size_t out_len);
+
+/* One tree among many, and what became of it. The caller sets the first two, which may be any numbers; the call leaves them
+ * as they are, and writes the other three, whatever stood there. */
+struct kinyandoma_job {
+    uint64_t tree_start; /* where the tree begins in the tree buffer */
+    uint64_t tree_len;   /* how many bytes it has */
+    uint64_t refusal;    /* 0, or the number of the refusal */
+    uint64_t place;      /* of 0 the length of the text; of a refusal its place */
+    uint64_t out_start;  /* where in out the text begins; of a refused job, where the next text begins */
+};
+
+/* The texts of many trees, written to out one behind the other from its first byte on. `trees` is one buffer for all trees,
+ * which may be longer than a tree may be, and `text` the one text that they name parts of; its encoding is checked once.
+ * Jobs may name the same bytes, or bytes that overlap.
+ *
+ * Each job in order is what kinyandoma_render_with does with the job's tree, the text, and the room that is left of out
+ * behind the texts before. A job is refused with 1 and place 0, before all else, if it begins past the end of the buffer or
+ * fewer bytes stand behind its start than it says. A refused job adds nothing, and the next ones go on: after one that there
+ * was no room for (8), a shorter one may be written.
+ *
+ * Answers the bytes that were written in all; those behind them are as they were. Without jobs it answers 0. */
+uint64_t kinyandoma_render_jobs(uint32_t options, struct kinyandoma_job *jobs, size_t count, const uint8_t *trees,
+                                size_t trees_len, const uint8_t *text, size_t text_len, uint8_t *out, size_t out_len);
 
 /* The bytes of a stream record. All numbers in it are little-endian.
  *

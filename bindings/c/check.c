@@ -1,8 +1,8 @@
 /* Calls the functions of libkinyandoma.a on good and bad input, as a C program does.
  *
  * What is expected is document 01's: section 6 for the cases, section 3 for the numbers and places; 12 is document 02's,
- * request ii, 9 its request vii, 10 its request viii, and line and column are its request ix. Around every lent part stand known bytes, which must
- * stay. One line a case, and `N passed, M failed` at the end. */
+ * request ii, 9 its request vii, 10 its request viii, line and column are its request ix, and jobs its request i. Around
+ * every lent part stand known bytes, which must stay. One line a case, and `N passed, M failed` at the end. */
 #include "kinyandoma.h"
 
 #include <stdio.h>
@@ -586,6 +586,112 @@ static void editions(void) {
     }
 }
 
+/* ---- Many trees at once: document 02, request i */
+
+/* RUN of one TK_ID, whose value is the first `length` bytes of the text. */
+#define NAME_OF(length) \
+    0x53, 0x4E, 0x03, 0, 0, 0, 1, 0, 0, 0, 0, 0, 0, 0, 0, 0, /* RUN */ \
+    0x53, 0x4E, 0x02, 0, TK_ID, 0x80, 0, 0, 0, 0, 0, 0, length, 0, 0, 0 /* TOKEN */
+
+/* DROP TYPE at 0, a name of a byte at 48, one of three bytes at 80, an empty RUN at 112, and a CHECK at 128. */
+static const uint8_t BUFFER[] = {CMD, DROP_TYPE, GEO, NAME_OF(1), NAME_OF(3),
+                                 0x53, 0x4E, 0x03, 0, 0, 0, 0, 0, 0, 0, 0, 0, 0, 0, 0, 0, CHECK_OF(1)};
+
+enum {
+    JOBS = 6,              /* most jobs of a case */
+    BUFFER_LEN = 176,      /* bytes of the buffer */
+    UNSET = 0x5555         /* what stands in a job before the call */
+};
+
+/* The last numbers of 64 bits: so many before 2^64. */
+#define LAST(before) (UINT64_MAX - (before) + 1)
+#define DROP_JOB 0, 48
+#define SHORT_JOB 48, 32
+#define NAME_JOB 80, 32
+#define EMPTY_JOB 112, 16
+#define CHECK_JOB 128, 48
+
+typedef struct {
+    const char *name;
+    uint32_t options;
+    const uint8_t *text;
+    size_t text_length;
+    size_t room;
+    size_t count;
+    struct kinyandoma_job jobs[JOBS]; /* with what is expected in them */
+    const char *written;
+} jobs_case;
+
+static const jobs_case LISTS[] = {
+    {"jobs: none", 0, BYTES("geo"), 8, 0, {{DROP_JOB, 0, 0, 0}}, ""},
+    {"jobs: none, with a text that is not UTF-8", 0, BYTES("\xFF"), 8, 0, {{DROP_JOB, 0, 0, 0}}, ""},
+    {"jobs: one", 0, BYTES("geo"), ROOM, 1, {{DROP_JOB, 0, 24, 0}}, "DROP TYPE IF EXISTS geo;"},
+    {"jobs: one behind the other, in just the room", 0, BYTES("geo"), 28, 4,
+     {{DROP_JOB, 0, 24, 0}, {SHORT_JOB, 0, 1, 24}, {EMPTY_JOB, 0, 0, 25}, {NAME_JOB, 0, 3, 25}},
+     "DROP TYPE IF EXISTS geo;ggeo"},
+    {"jobs: the same twice, and one inside another", 0, BYTES("geo"), ROOM, 3,
+     {{SHORT_JOB, 0, 1, 0}, {SHORT_JOB, 0, 1, 1}, {16, 32, 0, 23, 2}},
+     "ggDROP TYPE IF EXISTS geo"},
+    {"jobs: no room is 8, and a shorter one goes on", 0, BYTES("geo"), 4, 4,
+     {{DROP_JOB, 8, 24, 0}, {NAME_JOB, 0, 3, 0}, {NAME_JOB, 8, 3, 3}, {SHORT_JOB, 0, 1, 3}},
+     "geog"},
+    {"jobs: no room at all", 0, BYTES("geo"), 0, 3,
+     {{SHORT_JOB, 8, 1, 0}, {EMPTY_JOB, 0, 0, 0}, {NAME_JOB, 8, 3, 0}}, ""},
+    {"jobs: a refused one adds nothing", 0, BYTES("geo"), ROOM, 4,
+     {{SHORT_JOB, 0, 1, 0}, {0, 32, 7, 2, 1}, {48, 48, 7, 2, 1}, {NAME_JOB, 0, 3, 1}}, "ggeo"},
+    {"jobs: a tree of no bytes and of a byte less are 1", 0, BYTES("geo"), ROOM, 3,
+     {{48, 0, 1, 0, 0}, {48, 31, 1, 0, 0}, {SHORT_JOB, 0, 1, 0}}, "g"},
+    {"jobs: at the end of the buffer, and past it", 0, BYTES("geo"), ROOM, 6,
+     {{BUFFER_LEN, 0, 1, 0, 0}, {BUFFER_LEN, 16, 1, 0, 0}, {BUFFER_LEN + 1, 0, 1, 0, 0},
+      {BUFFER_LEN - 16, 32, 1, 0, 0}, {0, BUFFER_LEN + 16, 1, 0, 0}, {SHORT_JOB, 0, 1, 0}}, "g"},
+    {"jobs: sums of 2^64", 0, BYTES("geo"), ROOM, 6,
+     {{LAST(16), 16, 1, 0, 0}, {LAST(16), 64, 1, 0, 0}, {48, LAST(48), 1, 0, 0},
+      {48, LAST(16), 1, 0, 0}, {UINT64_MAX, UINT64_MAX, 1, 0, 0}, {SHORT_JOB, 0, 1, 0}}, "g"},
+    {"jobs: numbers whose low halves are inside", 0, BYTES("geo"), ROOM, 3,
+     {{(uint64_t)1 << 32 | 48, 32, 1, 0, 0}, {48, (uint64_t)1 << 32 | 32, 1, 0, 0}, {SHORT_JOB, 0, 1, 0}}, "g"},
+    {"jobs: outside comes before a text that is not UTF-8", 0, BYTES("ge\xFF"), ROOM, 4,
+     {{NAME_JOB, 2, 2, 0}, {BUFFER_LEN, 16, 1, 0, 0}, {0, 47, 1, 0, 0}, {SHORT_JOB, 2, 2, 0}}, ""},
+    {"jobs: outside comes before a text that is cut off", 0, BYTES("geo\xE2\x82"), ROOM, 3,
+     {{UINT64_MAX, 1, 1, 0, 0}, {NAME_JOB, 12, 3, 0}, {EMPTY_JOB, 12, 3, 0}}, ""},
+    {"jobs: a text that is too long is 2 for each", 0, long_text, MOST + 1, ROOM, 2,
+     {{SHORT_JOB, 2, MOST, 0}, {EMPTY_JOB, 2, MOST, 0}}, ""},
+    {"jobs: an open source is written", KINYANDOMA_SQLITE, BYTES("'eo"), ROOM, 2,
+     {{CHECK_JOB, 0, 9, 0}, {SHORT_JOB, 0, 1, 9}}, "CHECK (')'"},
+    {"jobs: with the switch on it is 9", KINYANDOMA_STRICT, BYTES("'eo"), ROOM, 2,
+     {{CHECK_JOB, 9, 2, 0}, {SHORT_JOB, 0, 1, 0}}, "'"},
+};
+
+/* Whether each job says what is expected, and those behind the last are as before. */
+static int jobs_as_expected(const jobs_case *c, const struct kinyandoma_job *jobs) {
+    int done = 1;
+    for (size_t at = 0; at < JOBS; at++) {
+        const struct kinyandoma_job *expected = &c->jobs[at], *given = &jobs[at];
+        int called = at < c->count;
+        done &= given->tree_start == expected->tree_start && given->tree_len == expected->tree_len;
+        done &= given->refusal == (called ? expected->refusal : UNSET);
+        done &= given->place == (called ? expected->place : UNSET);
+        done &= given->out_start == (called ? expected->out_start : UNSET);
+    }
+    return done;
+}
+
+static void list_of_jobs(const jobs_case *c) {
+    struct kinyandoma_job jobs[JOBS];
+    uint8_t trees[BUFFER_LEN];
+    lent out;
+    size_t length = strlen(c->written);
+    prepare(&out);
+    memcpy(trees, BUFFER, sizeof trees);
+    for (size_t at = 0; at < JOBS; at++) {
+        struct kinyandoma_job before = {c->jobs[at].tree_start, c->jobs[at].tree_len, UNSET, UNSET, UNSET};
+        jobs[at] = before;
+    }
+    uint64_t written = kinyandoma_render_jobs(c->options, jobs, c->count, trees, sizeof trees, c->text, c->text_length,
+                                              out.bytes + GUARD, c->room);
+    int stays = memcmp(trees, BUFFER, sizeof trees) == 0 && holds(&out, c->written, length);
+    tell(c->name, written == length && stays && jobs_as_expected(c, jobs));
+}
+
 /* One record with no part, flags or number. */
 static void put(uint8_t *tree, size_t index, uint8_t kind, uint8_t children) {
     uint8_t *record = tree + 16 * index;
@@ -653,6 +759,9 @@ int main(void) {
         strict_tree(&STRICT[at]);
     }
     editions();
+    for (size_t at = 0; at < sizeof LISTS / sizeof LISTS[0]; at++) {
+        list_of_jobs(&LISTS[at]);
+    }
     printf("%d passed, %d failed\n", passed, failed);
     return failed != 0;
 }

@@ -43,6 +43,28 @@ extern "C" {
         value: *const u8,
         value_len: usize,
     ) -> u64;
+    fn kinyandoma_render_jobs(
+        options: u32,
+        jobs: *mut Job,
+        count: usize,
+        trees: *const u8,
+        trees_len: usize,
+        text: *const u8,
+        text_len: usize,
+        out: *mut u8,
+        out_len: usize,
+    ) -> u64;
+}
+
+/// struct kinyandoma_job of include/kinyandoma.h: where a tree stands, and what became of it.
+#[repr(C)]
+#[derive(Clone, Copy, Debug, Default, PartialEq, Eq)]
+pub struct Job {
+    pub tree_start: u64,
+    pub tree_len: u64,
+    pub refusal: u64,
+    pub place: u64,
+    pub out_start: u64,
 }
 
 /// What a call answers: its number, 0 if it is done, and its place.
@@ -119,6 +141,31 @@ pub fn render_with(options: u32, tree: &[u8], text: &[u8], out: &mut [u8]) -> An
         )
     };
     Answer::unpacked(packed)
+}
+
+/// The texts of many trees, written to `out` one behind the other; answers the bytes written in all.
+pub fn render_jobs(
+    options: u32,
+    jobs: &mut [Job],
+    trees: &[u8],
+    text: &[u8],
+    out: &mut [u8],
+) -> usize {
+    // Safe: the slices are valid for their lengths, a `Job` is laid out as in C, and `jobs` and `out` are ours alone.
+    let written = unsafe {
+        kinyandoma_render_jobs(
+            options,
+            jobs.as_mut_ptr(),
+            jobs.len(),
+            trees.as_ptr(),
+            trees.len(),
+            text.as_ptr(),
+            text.len(),
+            out.as_mut_ptr(),
+            out.len(),
+        )
+    };
+    written as usize
 }
 
 /// One token, appended behind what the stream has written to `out`.

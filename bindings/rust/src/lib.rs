@@ -19,6 +19,8 @@
 //! # Ok::<(), Box<dyn std::error::Error>>(())
 //! ```
 //!
+//! Many trees over one text, a whole schema, are rendered by one call: [`render_jobs`].
+//!
 //! A host that has tokens already writes them with a [`Stream`]. What a call refuses comes back as a [`Refusal`], with
 //! number and place; nothing is written then. [`Options`] let a caller have more refused, or have the text written as SQLite
 //! reads it, by the calls whose names end in `_with`.
@@ -27,6 +29,7 @@
 #![forbid(unsafe_op_in_unsafe_fn)]
 
 mod calls;
+mod jobs;
 mod kind;
 mod options;
 mod refusal;
@@ -35,6 +38,10 @@ mod token;
 mod tree;
 mod writer;
 
+pub use jobs::{
+    render_jobs, render_jobs_to_strings, render_jobs_to_strings_with, render_jobs_with, Rendered,
+    Texts,
+};
 pub use kind::{
     Flag, Kind, EXPLAIN, EXPLAIN_QUERY_PLAN, EXPLAIN_QUERY_PLAN_JSON, MATERIALIZED,
     NOT_MATERIALIZED,
@@ -43,7 +50,7 @@ pub use options::Options;
 pub use refusal::{Reason, Refusal, MOST_BYTES};
 pub use stream::Stream;
 pub use token::Token;
-pub use tree::{id, list, text, Node, Part, Run};
+pub use tree::{id, list, text, Node, Part, Run, Trees};
 pub use writer::{EncodeError, MOST_RECORDS};
 
 use refusal::{settled, Asked};

@@ -53,6 +53,8 @@ pub enum Reason {
     /// is not of 25 bytes, does not begin with 0 or 1, or whose line or column is larger than its count; a
     /// [`Stream`](crate::Stream) never has such a record.
     StreamRecord,
+    /// 1, [`render_jobs`](crate::render_jobs): the range of the job is not inside the buffer of trees.
+    OutsideBuffer,
     /// 2: the text or value is longer than 65,536 bytes.
     TextTooLong,
     /// 2: the byte at the place begins no character of UTF-8.
@@ -81,11 +83,12 @@ pub enum Reason {
     WithoutRowid,
 }
 
-/// Which sort of call was made: the numbers 1 and 4 mean something else in an append.
+/// Which sort of call was made: the numbers 1 and 4 mean something else in an append, and 1 for a job outside its buffer.
 #[derive(Clone, Copy)]
 pub(crate) enum Asked {
     Tree,
     Append,
+    Outside,
 }
 
 /// The place of an answer 0, or the refusal.
@@ -106,11 +109,12 @@ fn reason(asked: Asked, number: u32, place: usize) -> Reason {
     match (number, asked) {
         (1, Asked::Tree) => Reason::TreeLength,
         (1, Asked::Append) => Reason::StreamRecord,
+        (1, Asked::Outside) => Reason::OutsideBuffer,
         (2, _) if place == MOST_BYTES => Reason::TextTooLong,
         (2, _) => Reason::NotUtf8,
         (3, _) => Reason::Mark,
-        (4, Asked::Tree) => Reason::Record,
         (4, Asked::Append) => Reason::Token,
+        (4, _) => Reason::Record,
         (5, _) => Reason::TextPart,
         (6, _) => Reason::TooDeep,
         (7, _) => Reason::RecordCount,
@@ -146,6 +150,10 @@ impl Reason {
                 "the output is shorter than what the stream has written, or the stream record is malformed: it is no bit \
                  with count, line and column, or its line or column is larger than its count",
                 "lend the same output, at its full length",
+            ),
+            Reason::OutsideBuffer => (
+                "the range of the job is not inside the buffer of trees",
+                "mend where it starts and ends",
             ),
             Reason::TextTooLong => ("the text is longer than 65536 bytes", "shorten it"),
             Reason::NotUtf8 => (

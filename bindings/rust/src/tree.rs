@@ -3,6 +3,7 @@
 use crate::kind::{Flag, Kind};
 use crate::token::Token;
 use crate::writer::{EncodeError, Writer};
+use std::ops::Range;
 
 /// What stands in a slot, in a list, or at the root.
 #[derive(Clone, Debug, PartialEq, Eq)]
@@ -83,8 +84,58 @@ impl Part {
     /// Equal texts are stored once. Whether each part may stand where it does is for the calls to say.
     pub fn finish(&self) -> Result<(Vec<u8>, Vec<u8>), EncodeError> {
         let mut writer = Writer::default();
-        writer.part(self)?;
+        writer.tree(self)?;
         Ok(writer.pair())
+    }
+}
+
+/// Trees one behind the other, over one text: what [`render_jobs`](crate::render_jobs) takes.
+///
+/// ```
+/// use kinyandoma::{id, Trees};
+///
+/// let mut trees = Trees::new();
+/// assert_eq!(trees.add(id("meters"))?, 0..32);
+/// assert_eq!(trees.add(id("readings"))?, 32..64);
+/// assert_eq!(trees.ranges(), [0..32, 32..64]);
+/// assert_eq!(trees.text(), b"metersreadings");
+/// # Ok::<(), kinyandoma::EncodeError>(())
+/// ```
+#[derive(Clone, Debug, Default)]
+pub struct Trees {
+    writer: Writer,
+    ranges: Vec<Range<usize>>,
+}
+
+impl Trees {
+    /// No trees, and no text.
+    pub fn new() -> Trees {
+        Trees::default()
+    }
+
+    /// Puts a tree behind the others, and answers where it stands. Equal texts are stored once for all trees.
+    ///
+    /// A tree that cannot be said is not added. A text for all may be as long as that of one tree, so that a large schema takes
+    /// more than one `Trees`.
+    pub fn add(&mut self, root: impl Into<Part>) -> Result<Range<usize>, EncodeError> {
+        let range = self.writer.tree(&root.into())?;
+        self.ranges.push(range.clone());
+        Ok(range)
+    }
+
+    /// All trees.
+    pub fn trees(&self) -> &[u8] {
+        self.writer.trees()
+    }
+
+    /// Where each of them stands, in the order in which they were added.
+    pub fn ranges(&self) -> &[Range<usize>] {
+        &self.ranges
+    }
+
+    /// The text that they name parts of.
+    pub fn text(&self) -> &[u8] {
+        self.writer.text()
     }
 }
 

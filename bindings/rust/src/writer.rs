@@ -7,6 +7,7 @@ use crate::token::Token;
 use crate::tree::{Node, Part, Run};
 use std::collections::HashMap;
 use std::fmt;
+use std::ops::Range;
 
 /// Bytes of a record.
 const SIZE: usize = 16;
@@ -40,10 +41,12 @@ pub enum EncodeError {
     TokenNumber(u16),
 }
 
-/// A tree that grows.
-#[derive(Default)]
+/// Trees that grow, one behind the other over one text.
+#[derive(Clone, Debug, Default)]
 pub(crate) struct Writer {
-    tree: Vec<u8>,
+    trees: Vec<u8>,
+    /// Where the last of them begins.
+    begins: usize,
     text: String,
     /// Where each text begins that stands there already.
     starts: HashMap<String, u32>,
@@ -52,13 +55,33 @@ pub(crate) struct Writer {
 type Written = Result<(), EncodeError>;
 
 impl Writer {
-    /// The tree and its text.
+    /// The trees and their text.
     pub fn pair(self) -> (Vec<u8>, Vec<u8>) {
-        (self.tree, self.text.into_bytes())
+        (self.trees, self.text.into_bytes())
+    }
+
+    /// The trees.
+    pub fn trees(&self) -> &[u8] {
+        &self.trees
+    }
+
+    /// The text that they name parts of.
+    pub fn text(&self) -> &[u8] {
+        self.text.as_bytes()
+    }
+
+    /// One more tree, and where it stands. On an error none is added; what was stored of its texts stays, and nobody names it.
+    pub fn tree(&mut self, root: &Part) -> Result<Range<usize>, EncodeError> {
+        self.begins = self.trees.len();
+        let written = self.part(root);
+        if written.is_err() {
+            self.trees.truncate(self.begins);
+        }
+        written.map(|()| self.begins..self.trees.len())
     }
 
     /// A part with all below it.
-    pub fn part(&mut self, part: &Part) -> Written {
+    fn part(&mut self, part: &Part) -> Written {
         match part {
             Part::None => self.record(NONE, 0, 0, UNUSED),
             Part::Text(text) => {
@@ -103,16 +126,16 @@ impl Writer {
 
     /// One record, if there may be one more.
     fn record(&mut self, kind: u16, flags: u16, children: usize, rest: [u8; 8]) -> Written {
-        if self.tree.len() >= MOST_RECORDS * SIZE {
+        if self.trees.len() - self.begins >= MOST_RECORDS * SIZE {
             return Err(EncodeError::TooManyRecords);
         }
         // More children than a record can say are more than a tree may have.
         let children = u16::try_from(children).map_err(|_| EncodeError::TooManyRecords)?;
-        self.tree.extend(MARK);
-        self.tree.extend(kind.to_le_bytes());
-        self.tree.extend(flags.to_le_bytes());
-        self.tree.extend(children.to_le_bytes());
-        self.tree.extend(rest);
+        self.trees.extend(MARK);
+        self.trees.extend(kind.to_le_bytes());
+        self.trees.extend(flags.to_le_bytes());
+        self.trees.extend(children.to_le_bytes());
+        self.trees.extend(rest);
         Ok(())
     }
 

@@ -47,6 +47,39 @@ pub fn trees(program: &str) -> Vec<Stored> {
     stored
 }
 
+/// A stored list of jobs: start and length of each tree, what is lent with them, and the line that is expected for it.
+pub struct List {
+    pub options: Options,
+    pub jobs: Vec<(u64, u64)>,
+    pub trees: Vec<u8>,
+    pub text: Vec<u8>,
+    pub room: usize,
+    pub expected: String,
+}
+
+/// The lists of `replay_jobs`.
+pub fn lists() -> Vec<List> {
+    let input = file("crates/replay_jobs/stdin");
+    let mut rest = Rest(&input);
+    let stored = lines("crates/replay_jobs/stdout").into_iter();
+    let stored = stored.map(|expected| {
+        let options = Options::from_bits(rest.word());
+        let [count, trees, text, room] = [(); 4].map(|()| rest.length());
+        let jobs = (0..count).map(|_| (rest.long(), rest.long())).collect();
+        List {
+            options,
+            jobs,
+            trees: rest.take(trees).to_vec(),
+            text: rest.take(text).to_vec(),
+            room,
+            expected,
+        }
+    });
+    let stored: Vec<List> = stored.collect();
+    assert!(rest.0.is_empty(), "as many lists as lines");
+    stored
+}
+
 /// A stored stream: number and value of each token, and the line that is expected for it.
 pub struct Tokens {
     pub tokens: Vec<(u16, Option<Vec<u8>>)>,
@@ -92,6 +125,10 @@ impl<'a> Rest<'a> {
 
     fn word(&mut self) -> u32 {
         u32::from_le_bytes(self.take(4).try_into().expect("four bytes"))
+    }
+
+    fn long(&mut self) -> u64 {
+        u64::from_le_bytes(self.take(8).try_into().expect("eight bytes"))
     }
 
     fn length(&mut self) -> usize {
