@@ -158,19 +158,27 @@ pub fn instructions(inputs: &[Input]) {
 /// Bytes of stack that each call takes.
 pub fn stack_of(trees: Vec<(&str, Vec<Item>)>) {
     println!("\nBytes of stack:\n");
-    println!("| Tree | measure | render |");
-    println!("|---|---|---|");
+    println!("| Tree | measure | render | jobs |");
+    println!("|---|---|---|---|");
     for (name, items) in trees {
         let measured = items.iter().map(|item| taken(stack::measure(item), item));
         let rendered = items.iter().map(|item| taken(stack::render(item), item));
         let (measured, rendered) = (measured.max(), rendered.max());
         println!(
-            "| {name} | {} | {} |",
+            "| {name} | {} | {} | {} |",
             measured.unwrap_or(0),
-            rendered.unwrap_or(0)
+            rendered.unwrap_or(0),
+            taken_by_jobs(&items)
         );
     }
     println!("\nappend: {} bytes of stack at most", most_of_append());
+}
+
+fn taken_by_jobs(items: &[Item]) -> usize {
+    let taken = stack::jobs(items);
+    let written = items.iter().map(|item| item.expected.len()).sum();
+    assert_eq!(taken.answer, done(written));
+    taken.bytes
 }
 
 fn taken(taken: stack::Taken, item: &Item) -> usize {
