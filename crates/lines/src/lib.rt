@@ -12,8 +12,10 @@ use libc::STDOUT_FILENO;
 // The most digits of a number.
 const DIGITS: usize = 20;
 
-// The most bytes of two numbers, with a byte behind each.
-const NUMBERS: usize = 2 * DIGITS + 2;
+// The most bytes of a number with a byte behind it, and of two.
+const NUMBER: usize = DIGITS + 1;
+
+const NUMBERS: usize = 2 * NUMBER;
 
 // The most bytes that are printed in hex, and their digits.
 const BYTES: usize = 65536;
@@ -57,6 +59,14 @@ fn put_number(n: u64, line: &mut [u8], at: usize) -> usize
         line[at + i] = digits[i];
     }
     at + count
+}
+
+// Prints a number and a byte behind it, and answers whether they were written.
+pub fn print_number(n: u64, behind: u8) -> bool {
+    let mut line = [0u8; NUMBER];
+    let end = put_number(n, &mut line, 0);
+    line[end] = behind;
+    print(&line[..end + 1])
 }
 
 // Prints two numbers with a space between them and a byte behind them, and answers whether they were written.
