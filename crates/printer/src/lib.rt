@@ -4,7 +4,7 @@ use libc::STDOUT_FILENO;
 use render::Outcome;
 
 // One byte more than a tree or a text may have, so that one that is longer is seen to be.
-const ROOM: usize = 65537;
+pub const ROOM: usize = 65537;
 
 // The bytes of the output buffer.
 const OUTPUT: usize = 65536;
@@ -28,7 +28,7 @@ fn read_to_end(fd: i32, buf: &mut [u8]) -> Got
 }
 
 // Reads the file of a name.
-fn read_file(name: &[u8], buf: &mut [u8]) -> Got
+pub fn read_file(name: &[u8], buf: &mut [u8]) -> Got
     ensures { λ r. ⌜ Counts (r .len) (now (buf .exit)) ⌝ }
 {
     let fd = os::open_read(name);
@@ -48,12 +48,17 @@ pub fn print_unreadable() {
     io::write_all(STDOUT_FILENO, b"unreadable\n");
 }
 
-// Prints a refusal's number, a space, its place and a newline.
-fn print_refusal(o: Outcome) {
-    io::print_decimal(STDOUT_FILENO, render::number(o));
+// Prints a number, a space, a place and a newline.
+pub fn print_answer(number: u64, place: usize) {
+    io::print_decimal(STDOUT_FILENO, number);
     io::write_all(STDOUT_FILENO, b" ");
-    io::print_decimal(STDOUT_FILENO, render::place(o) as u64);
+    io::print_decimal(STDOUT_FILENO, place as u64);
     io::write_all(STDOUT_FILENO, b"\n");
+}
+
+// Prints a refusal's number and its place.
+fn print_refusal(o: Outcome) {
+    print_answer(render::number(o), render::place(o));
 }
 
 // Prints the text of a tree with these options and nothing more, or the refusal.
