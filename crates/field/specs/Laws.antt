@@ -16,7 +16,7 @@ use Rattle.utf8.specs.declared.Encoding.{Encoding}
 use Rattle.record.specs.Record.{recordAt, count, markOk}
 use Rattle.grammar.specs.Grammar.{root}
 use Rattle.tree.specs.Check as tree
-use Rattle.tree.specs.Check.{Place, place, holds, fits, inside, swallows, misnames, faultsIn, scanIn, malformed, longest, answerIn, ChecksIn, Checks}
+use Rattle.tree.specs.Check.{Place, place, holds, fits, inside, swallows, misnames, faultsIn, scanIn, malformed, longest, answerIn, ChecksIn}
 use Rattle.tree.specs.Bounds.{admitted-short}
 use Rattle.tree.specs.declared.Answer.{Answer}
 use Rattle.tree.specs.declared.Answer.the-variants.{Admitted, Malformed, TooLong, Broken, Mark, Misfit, Outside, Unclosed, NotRowid, Deep}

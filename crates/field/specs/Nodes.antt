@@ -20,9 +20,9 @@ use Rattle.grammar.specs.Grammar.{table, shape}
 use Rattle.grammar.specs.Slots.{slotsOf, elements}
 use Rattle.grammar.specs.Packed.{each, turn}
 use Rattle.grammar.specs.Entries.{entries, entry}
-use Rattle.tree.specs.Check.{Place, place, holds, fits}
+use Rattle.tree.specs.Check.{place, holds, fits}
 use Rattle.tree.specs.Steps.{kids-are}
-use Rattle.field.specs.Profile.{foreign, takesNode, deepest, breaks}
+use Rattle.field.specs.Profile.{foreign, firstNode, takesNode, deepest, breaks}
 
 -- ---- the numbers
 unfoldable pub nodesAt : Class → ℕ
@@ -69,17 +69,17 @@ single-half false = refl
 
 pub takes-is : (c : Class) → eqb (nodesAt c % 2) 1 ≡ takesNode c
 unfolding nodesAt takesNode
-takes-is (one ks) = single-told (not (all (λ k. ltb k 32) ks))
+takes-is (one ks) = single-told (not (all (λ k. ltb k firstNode) ks))
 takes-is (list c) = ne-eqb (2 * nodesAt c % 2) 1 (λ e. omega arith)
-takes-is (oneOr ks c) = bit-told (nodesAt c) (not (all (λ k. ltb k 32) ks))
+takes-is (oneOr ks c) = bit-told (nodesAt c) (not (all (λ k. ltb k firstNode) ks))
 takes-is small = refl
 takes-is (ruled u) = refl
 
 elements-are : (c : Class) → nodesAt c / 2 ≡ nodesAt (elements c)
 unfolding nodesAt takesNode elements
-elements-are (one ks) = single-half (not (all (λ k. ltb k 32) ks))
+elements-are (one ks) = single-half (not (all (λ k. ltb k firstNode) ks))
 elements-are (list c) = omega arith
-elements-are (oneOr ks c) = half-told (nodesAt c) (not (all (λ k. ltb k 32) ks))
+elements-are (oneOr ks c) = half-told (nodesAt c) (not (all (λ k. ltb k firstNode) ks))
 elements-are small = refl
 elements-are (ruled u) = refl
 

@@ -1,7 +1,7 @@
 -- The walk over an admitted tree. `Sound` says that the records from an index on fill their places, by the check's scan; so each of them fits its
 -- place, and the walk may go by its children. `Goes` says what the walk has come to so far: what is left to be looked at leads to the same first
 -- record that breaks the profile.
-use Prim.Native.Nat.{ℕ, zero, suc, _+_, _-_, _%_, _≤_, _<_}
+use Prim.Native.Nat.{ℕ, suc, _+_, _-_, _%_, _≤_, _<_}
 use native.Mathlib.Omega.{arith}
 use mathlib.Core.Path.{_≡_, refl, _∙_, ap, sym}
 use mathlib.Core.List.{List, [], _∷_, _++_, map}
@@ -14,7 +14,7 @@ use Rattle.tree.specs.Check.{Place, place, holds, fits}
 use Rattle.tree.specs.Steps.{childless}
 use Rattle.tree.specs.Walk.{refused}
 use Rattle.tokens.specs.Tokens.{inEdition}
-use Rattle.admitted.specs.Fills.{Fills, Filled, fill}
+use Rattle.admitted.specs.Fills.{Fills, fill}
 use Rattle.field.specs.Profile.{breaks, stopped, behind, firstBreak}
 use Rattle.field.specs.Nodes.{nodesAt, nodesBelow, codes, breaksBy, breaks-is, depth-left, codes-below}
 use Rattle.field.specs.declared.Found.{Found}
@@ -116,9 +116,6 @@ all-met t i ps left next u n h g = let z : n ≡ 0 = omega arith in rw (none (g 
 module _ {t : List ℕ} {i : ℕ} {ps : List Place} {left next u n : ℕ} (g : Going t i ps left next u n) (some : 0 < n) where
   s : Split (g .classes) u n
   s = split (g .classes) u n (g .coded) some
-
-  left-over : List Place
-  left-over = map (place (25 - left)) (s .others)
 
   goes-here : Goes t i ps (behind next) (place (25 - left) (s .class) ∷ map (place (25 - left)) (s .others))
   goes-here = rw (s .are) at (g .goes)

@@ -69,7 +69,7 @@ profile-row-met t =
     let at-if1 = c .before .before .before in
     let at-test = at-breaks .before .before in
     let led = at-test .before .before .before .pre .1 .1 in
-    turn-left (at-test .before .loop .inv (led .classes) (led .coded)) (at-test .loop-test .taken) _ (at-breaks .breaks .ensures) (at-if1 .if1 .left))
+    omega (arith, turn-left (at-test .before .loop .inv (led .classes) (led .coded)) (at-test .loop-test .taken) _ (at-breaks .breaks .ensures) (at-if1 .if1 .left)))
     (λ c κs.  -- profile-row-requires
     let at-breaks = c .before .before .before .before in
     let at-if1 = c .before .before .before in
