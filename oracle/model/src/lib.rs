@@ -12,6 +12,7 @@ pub mod jobs;
 pub mod judge;
 pub mod options;
 pub mod outline;
+pub mod profile;
 pub mod random;
 pub mod record;
 pub mod row;
