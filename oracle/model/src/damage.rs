@@ -9,6 +9,7 @@ pub mod text;
 use crate::check::check_with;
 use crate::encode::Pair;
 use crate::record::{Record, SIZE};
+pub use shape::run_for_kind;
 use tokens::random::Random;
 
 pub struct Damage {

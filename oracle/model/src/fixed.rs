@@ -53,7 +53,7 @@ pub fn of(records: &[Record], text: &[u8]) -> Case {
 }
 
 /// The case with one record changed.
-fn edited(case: &Case, index: usize, change: impl FnOnce(&mut Record)) -> Case {
+pub fn edited(case: &Case, index: usize, change: impl FnOnce(&mut Record)) -> Case {
     let mut case = case.clone();
     case.edit(index, change);
     case
@@ -80,7 +80,7 @@ fn faults_at(case: &Case, index: usize) -> Vec<Case> {
 
 /// The case cut off behind so many records; with a record too many, a tree that is no row of records, and a text that is no
 /// UTF-8 or is cut off.
-fn faults_of_the_whole(case: &Case, cuts: &[usize]) -> Vec<Case> {
+pub fn faults_of_the_whole(case: &Case, cuts: &[usize]) -> Vec<Case> {
     let changed = |change: &dyn Fn(&mut Case)| {
         let mut case = case.clone();
         change(&mut case);
@@ -98,7 +98,7 @@ fn faults_of_the_whole(case: &Case, cuts: &[usize]) -> Vec<Case> {
 }
 
 /// The case with records from `from` to `to` - 1 exchanged for others.
-fn spliced(case: &Case, from: usize, to: usize, records: &[u8]) -> Case {
+pub fn spliced(case: &Case, from: usize, to: usize, records: &[u8]) -> Case {
     let mut case = case.clone();
     let range = from * SIZE..to * SIZE;
     case.tree.splice(range, records.iter().copied());

@@ -1,5 +1,7 @@
 //! Good trees made from the grammar alone.
 
+pub mod whole;
+
 use crate::encode::{Pair, Writer};
 use crate::grammar::{row, Class, Slot, CMD, KINDS, LIST, REPLACE, ROOT, ROOT_ELEMENT, RUN};
 use crate::record::Record;

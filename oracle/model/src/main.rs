@@ -1,6 +1,7 @@
 //! Writes cases and the model's answers, judges answers, tells what the good trees hold.
 
 use model::jobs::listed;
+use model::profile;
 use model::samples::Judged;
 use model::{files, fixed, judge, row, tally, texts};
 use std::io::{self, BufReader, BufWriter, Write};
@@ -12,7 +13,8 @@ const USAGE: &str = "usage: model cases COUNT SEED INPUT-FILE EXPECTED-FILE
        model judge COUNT SEED
        model kinds COUNT SEED
        model texts INPUT-FILE EXPECTED-FILE
-       model jobs INPUT-FILE EXPECTED-FILE";
+       model jobs INPUT-FILE EXPECTED-FILE
+       model profile INPUT-FILE EXPECTED-FILE";
 
 fn main() {
     let words: Vec<String> = env::args().skip(1).collect();
@@ -27,6 +29,7 @@ fn main() {
         ["kinds", count, seed] => kinds(number(count), number(seed)),
         ["texts", input, expected] => write_texts(input, expected),
         ["jobs", input, expected] => write_jobs(input, expected),
+        ["profile", input, expected] => write_profile(input, expected),
         _ => fail(USAGE),
     };
     done.unwrap_or_else(|error| fail(&error.to_string()));
@@ -48,6 +51,12 @@ fn write_texts(input: &str, expected: &str) -> io::Result<()> {
 
 fn write_jobs(input: &str, expected: &str) -> io::Result<()> {
     write_lines(&listed::all(), listed::write, listed::line, input, expected)
+}
+
+fn write_profile(input: &str, expected: &str) -> io::Result<()> {
+    let write = |out: &mut Vec<u8>, judged: &Judged| files::write_case(out, &judged.case);
+    let line = profile::listed::line;
+    write_lines(&profile::listed::all(), write, line, input, expected)
 }
 
 /// Cases, and a line for each.

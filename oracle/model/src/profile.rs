@@ -1,5 +1,8 @@
 //! The field profile (request xi): what a unit under the small contract may receive, by document 02 and the reading R23.
 
+pub mod drawn;
+pub mod listed;
+
 use crate::damage::Case;
 use crate::grammar::{takes, Slot, CMD, FIRST_STMT, KINDS, RUN};
 use crate::outline::{outline, Node};

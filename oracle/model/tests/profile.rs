@@ -1,13 +1,18 @@
 //! The field profile, by examples made by hand: each rule at its edge.
 
 use model::damage::Case;
+use model::files::write_case;
 use model::fixed::of;
 use model::grammar::{CHECK, CMD, LIST, NONE, RUN, TABLE_BODY, TEXT, TOKEN};
+use model::grow::whole::{self, Root};
 use model::options::{SQLITE, STRICT};
+use model::profile::listed;
 use model::profile::{
     ALTER_TABLE, BROKEN, CREATE_INDEX, CREATE_TABLE, DEEPEST, DROP_INDEX, DROP_TABLE, STATEMENTS,
 };
 use model::record::{Record, SIZE};
+use std::collections::BTreeSet;
+use tokens::random::Random;
 
 const DROP_VIEW: u16 = 48;
 const SELECT: u16 = 80;
@@ -20,6 +25,11 @@ const ADD_COLUMN: u16 = 94;
 const AS_SELECT: u16 = 99;
 const COLUMN: u16 = 100;
 const NAMED_CONSTRAINT: u16 = 120;
+
+/// Cases of the fixed list, at least and at most, and its bytes.
+const FEWEST: usize = 150;
+const MOST: usize = 400;
+const MOST_BYTES: usize = 150_000;
 
 /// Admitted by the profile.
 const FINE: (u32, u32) = (0, 0);
@@ -244,4 +254,55 @@ fn options_are_those_of_measure() {
     let other = of(&body, b"x");
     assert_eq!(other.profile_refusal(), at(0));
     assert_eq!(other.with(SQLITE).profile_refusal(), (10, 3));
+}
+
+#[test]
+fn grown_trees_are_of_the_profile() {
+    let mut random = Random::new(1);
+    for statement in STATEMENTS {
+        for records in 0..60 {
+            let in_cmd = records % 2 == 0;
+            let root = Root { statement, in_cmd };
+            let case = Case::from(whole::tree(&mut random, root, records));
+            assert_eq!(case.refusal(), FINE);
+            let refusal = case.profile_refusal();
+            assert!(refusal == FINE || depth(&case) > DEEPEST);
+        }
+    }
+}
+
+#[test]
+fn grown_chains_are_as_deep_as_asked() {
+    let mut random = Random::new(1);
+    for wanted in 10..=64 {
+        let root = Root {
+            statement: CREATE_TABLE,
+            in_cmd: wanted % 3 == 0,
+        };
+        let case = Case::from(whole::chain(&mut random, root, wanted));
+        assert_eq!(depth(&case), wanted);
+        let expected = match wanted > DEEPEST {
+            true => at(first_at(&case, DEEPEST + 1)),
+            false => FINE,
+        };
+        assert_eq!(case.profile_refusal(), expected);
+    }
+}
+
+#[test]
+fn the_fixed_list_has_every_number_and_is_small() {
+    let cases = listed::all();
+    let number = |line: &str| line.split(' ').next().map(str::to_string);
+    let numbers: BTreeSet<String> = cases
+        .iter()
+        .filter_map(|judged| number(&listed::line(judged)))
+        .collect();
+    let all = (0..=12).filter(|&number| number != 8);
+    assert_eq!(numbers, all.map(|number: u32| number.to_string()).collect());
+    assert!((FEWEST..=MOST).contains(&cases.len()), "{}", cases.len());
+    let mut bytes = vec![];
+    for judged in &cases {
+        write_case(&mut bytes, &judged.case).unwrap();
+    }
+    assert!(bytes.len() < MOST_BYTES, "{} bytes", bytes.len());
 }
