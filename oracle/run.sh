@@ -2,7 +2,8 @@
 # Builds the oracle, holds the stored files to it, and compares the library and the grammar's entries with the crate,
 # the check with the model, what it says of CHECK sources and of without-rowid texts with two readings of each, what the
 # SQLite edition writes with SQLite itself where `sqlite3` is on PATH, and what append writes with the reading rule.
-# It sees that bytes of a text that no record names change nothing, and that many trees at once are the single calls.
+# It sees that bytes of a text that no record names change nothing, that many trees at once are the single calls, and that
+# the field profile is the model's.
 # `run.sh --store` writes the stored files instead, and ends.
 # `run.sh --bench` tells the speed, the stack and the size of the library beside the crate's instead, and ends.
 set -euo pipefail
@@ -17,6 +18,8 @@ TEXTS=crates/replay_text/stdin
 WRITTEN=crates/replay_text/stdout
 LISTS=crates/replay_jobs/stdin
 SAID=crates/replay_jobs/stdout
+PROFILED=crates/replay_profile/stdin
+BROKEN=crates/replay_profile/stdout
 
 # Folders of the definitions that the entries are read from.
 GRAMMAR=crates/grammar/specs
@@ -34,6 +37,7 @@ SOURCES=${SOURCES:-2000000}
 EDITIONS=${EDITIONS:-1000000}
 NAMED=${NAMED:-1000000}
 JOBS=${JOBS:-1000000}
+PROFILES=${PROFILES:-1000000}
 TABLES=${TABLES:-10000}
 ENTRIES=${ENTRIES:-1000000}
 STREAMS=${STREAMS:-1000000}
@@ -78,6 +82,7 @@ make_files() {
     "$programs/model" cases "$LISTED" "$LISTED_SEED" "$made/trees" "$made/answers"
     "$programs/model" texts "$made/texts" "$made/written"
     "$programs/model" jobs "$made/lists" "$made/said"
+    "$programs/model" profile "$made/profiled" "$made/broken"
 }
 
 store() {
@@ -127,6 +132,8 @@ for_each_file() {
     "$1" written "$WRITTEN"
     "$1" lists "$LISTS"
     "$1" said "$SAID"
+    "$1" profiled "$PROFILED"
+    "$1" broken "$BROKEN"
 }
 
 check_sources
@@ -178,6 +185,9 @@ echo "bytes that no record names, changed: the same answers and outputs:"
 
 echo "many trees at once, against the model of a list of jobs and against single calls:"
 "$programs/compare" jobs "$JOBS" "$SEED"
+
+echo "the field profile, against the model, and against measure and render:"
+"$programs/compare" profile "$PROFILES" "$SEED"
 
 if command -v sqlite3 > /dev/null; then
     echo "what the SQLite edition writes, handed to SQLite itself:"

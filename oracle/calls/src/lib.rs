@@ -33,6 +33,13 @@ extern "C" {
         out: *mut u8,
         out_len: usize,
     ) -> u64;
+    pub fn kinyandoma_profile(
+        options: u32,
+        tree: *const u8,
+        tree_len: usize,
+        text: *const u8,
+        text_len: usize,
+    ) -> u64;
     pub fn kinyandoma_append(
         record: *mut u8,
         record_len: usize,

@@ -9,7 +9,7 @@ use crate::drawn::{drawn, EDITIONS};
 use crate::fuzz::Judge;
 use crate::guarded::fences;
 use crate::hex::hex;
-use crate::report::{Numbers, ANSWERS};
+use crate::report::{Numbers, MEASURED};
 use crate::trees::{self, answers, told};
 use model::check::check_with;
 use model::damage::Case;
@@ -355,9 +355,8 @@ fn says_otherwise(case: &Case) -> bool {
 /// Tables as they are written in Markdown.
 impl fmt::Display for Counts {
     fn fmt(&self, f: &mut fmt::Formatter<'_>) -> fmt::Result {
-        // 8 is an answer of render only.
-        let due: Vec<usize> = ANSWERS.into_iter().filter(|&number| number != 8).collect();
-        let heads: Vec<String> = due.iter().map(usize::to_string).collect();
+        let due = MEASURED;
+        let heads = due.map(|number| number.to_string());
         writeln!(f, "| Trees | Edition | In all | {} |", heads.join(" | "))?;
         writeln!(f, "|---|---|---|{}", "---|".repeat(due.len()))?;
         for ((part, edition), numbers) in &self.parts {

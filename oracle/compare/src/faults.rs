@@ -1,7 +1,9 @@
 //! Plants each fault in the stand-ins and sees that the comparison finds it.
 
 use crate::trees::stand_in::{exchange, faulty_entries};
-use crate::{compare_all, editions, encoding, fuzz, jobs, named, numbers, sources, trees, Extent};
+use crate::{
+    compare_all, editions, encoding, fuzz, jobs, named, numbers, profile, sources, trees, Extent,
+};
 use model::record::Record;
 use model::samples::Judged;
 use model::texts;
@@ -168,6 +170,25 @@ faults! {
         TextOfFirstJobOnly
         JobsWithoutOptions
         ByteBehindLast;
+    PROFILE:
+        NestingOf25Taken
+        NestingOf24Refused
+        CmdNotCounted
+        RunForNodeTaken
+        RunForElementTaken
+        RunForOptionalTaken
+        RunInCmdTaken
+        EveryRunRefused
+        LastBreakTold
+        DropViewTaken
+        AlterTableRefused
+        CmdFlagsTaken
+        CmdRefused
+        RootListTaken
+        BreakBeforeRefusals
+        PlaceOfRecordAbove
+        ProfileLengthOneMore
+        ProfileWithoutOptions;
     NUMBERS:
         OneSubtractionTooFew
         PowerLeftOut
@@ -193,6 +214,8 @@ const IN_EDITIONS: u64 = 20_000;
 const WITH_UNNAMED: u64 = 20_000;
 /// Random lists, for each fault of many trees at once.
 const LISTS: u64 = 20_000;
+/// Random trees, for each fault of the field profile.
+const PROFILED: u64 = 20_000;
 /// Calls of the fuzz run, for each fault.
 const FUZZED: u64 = 1_000_000;
 
@@ -217,12 +240,14 @@ pub fn try_all(whole: bool) -> bool {
     let editions = all_found(&by_editions, whole, &difference_in_editions);
     let named = all_found(NAMED, whole, &difference_in_named);
     let jobs = all_found(JOBS, whole, &difference_in_jobs);
+    let listed = all_found(PROFILE, whole, &difference_in_listed_profile);
+    let profile = listed && all_found(PROFILE, whole, &difference_in_profile);
     let by_fuzz = [
-        STREAM, APPEND, POSITION, TREES, ENCODING, SOURCES, EDITIONS, NAMED, JOBS,
+        STREAM, APPEND, POSITION, TREES, ENCODING, SOURCES, EDITIONS, NAMED, JOBS, PROFILE,
     ];
     let fuzzed = all_found(&by_fuzz.concat(), whole, &difference_in_fuzz);
     let of_trees = trees && entries && numbers && encoding && sources && editions && named;
-    append && of_trees && jobs && fuzzed
+    append && of_trees && jobs && profile && fuzzed
 }
 
 /// The difference that is found with a fault, if any is.
@@ -294,6 +319,17 @@ fn difference_in_named(fault: usize) -> Option<String> {
 fn difference_in_jobs(fault: usize) -> Option<String> {
     PLANTED.store(fault, Ordering::Relaxed);
     jobs::compare(LISTS, SEED).err()
+}
+
+fn difference_in_profile(fault: usize) -> Option<String> {
+    PLANTED.store(fault, Ordering::Relaxed);
+    profile::compare_drawn(PROFILED, SEED, &mut profile::Counts::default()).err()
+}
+
+/// By the fixed list alone.
+fn difference_in_listed_profile(fault: usize) -> Option<String> {
+    PLANTED.store(fault, Ordering::Relaxed);
+    profile::compare_listed(SEED, &mut profile::Counts::default()).err()
 }
 
 fn difference_in_fuzz(fault: usize) -> Option<String> {

@@ -64,7 +64,7 @@ fn tree(
     let judged = judge.judged(case)?;
     pool.keep(random, &judged);
     let fences = counts.fences(random);
-    let held = trees::hold(part, &judged, fences, random, &mut counts.trees);
+    let held = trees::hold_with_profile(part, &judged, fences, random, &mut counts.trees);
     held.map_err(|difference| difference.to_string())
 }
 

@@ -14,6 +14,7 @@ mod jobs;
 mod named;
 mod numbers;
 mod pages;
+mod profile;
 mod readable;
 mod refusals;
 mod report;
@@ -38,6 +39,7 @@ const USAGE: &str = "usage: compare [TOKENS [REFUSED-CALLS [SEED]]]
        compare editions COUNT SEED
        compare named COUNT SEED
        compare jobs COUNT SEED
+       compare profile COUNT SEED
        compare sqlite COUNT SEED
        compare reading COUNT SEED
        compare fuzz CALLS SEED";
@@ -63,6 +65,7 @@ fn main() {
         Some("editions") => compare_random(&words[1..], &editions::compare),
         Some("named") => compare_random(&words[1..], &named::compare),
         Some("jobs") => compare_random(&words[1..], &jobs::compare),
+        Some("profile") => compare_random(&words[1..], &profile::compare),
         Some("sqlite") => compare_random(&words[1..], &sqlite::compare),
         Some("reading") => compare_random(&words[1..], &readable::compare),
         Some("fuzz") => compare_random(&words[1..], &fuzz::compare),

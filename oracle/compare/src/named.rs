@@ -253,8 +253,8 @@ impl Counts {
 
     fn call(&mut self, call: &Call, outcome: &Outcome) {
         let numbers = match call.asked {
-            Asked::Measure => &mut self.measured,
             Asked::Render(_) => &mut self.rendered,
+            _ => &mut self.measured,
         };
         // A number that no call has is told as a difference.
         if let Some(count) = numbers.get_mut(outcome.answer.number as usize) {

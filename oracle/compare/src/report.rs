@@ -5,7 +5,9 @@ use crate::guarded::Fences;
 use std::fmt;
 
 /// The numbers of an answer.
-pub const ANSWERS: [usize; 12] = [0, 1, 2, 3, 4, 5, 6, 7, 8, 9, 10, 12];
+pub const ANSWERS: [usize; 13] = [0, 1, 2, 3, 4, 5, 6, 7, 8, 9, 10, 11, 12];
+/// Those of measure: 8 is an answer of render only, and 11 of the profile.
+pub const MEASURED: [usize; 11] = [0, 1, 2, 3, 4, 5, 6, 7, 9, 10, 12];
 /// How often each of them came, at its own place.
 pub type Numbers = [u64; 13];
 

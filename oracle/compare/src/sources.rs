@@ -8,7 +8,7 @@ use crate::drawn::{drawn, SOURCES};
 use crate::fuzz::Judge;
 use crate::guarded::fences;
 use crate::hex::hex;
-use crate::report::{Numbers, ANSWERS};
+use crate::report::{Numbers, MEASURED};
 use crate::trees::{self, answers, told};
 use model::check::check_with;
 use model::damage::Case;
@@ -196,9 +196,8 @@ impl fmt::Display for Counts {
             told(whole),
             told(open)
         )?;
-        // 8 is an answer of render only.
-        let due: Vec<usize> = ANSWERS.into_iter().filter(|&number| number != 8).collect();
-        let heads: Vec<String> = due.iter().map(usize::to_string).collect();
+        let due = MEASURED;
+        let heads = due.map(|number| number.to_string());
         writeln!(f, "| Trees | Switch | In all | {} |", heads.join(" | "))?;
         writeln!(f, "|---|---|---|{}", "---|".repeat(due.len()))?;
         for ((part, strict), numbers) in &self.parts {

@@ -110,7 +110,42 @@ pub fn hold(
         with_options: judged.case.options & MEANT != 0 || random.one_in(2),
         asked,
     });
-    make(calls.collect(), part, judged, fences, counts)
+    counts.tree(part, judged);
+    make(&calls.collect::<Vec<_>>(), judged, part, fences, counts)
+}
+
+/// The same calls, and the field profile.
+pub fn hold_with_profile(
+    part: &'static str,
+    judged: &Judged,
+    fences: Fences,
+    random: &mut Random,
+    counts: &mut Counts,
+) -> Checked {
+    hold(part, judged, fences, random, counts)?;
+    make(
+        &[with_options(Asked::Profile)],
+        judged,
+        part,
+        fences,
+        counts,
+    )
+}
+
+/// The field profile and measure, and render with just the room, all with options: what the profile admits must be measured
+/// and written as without it.
+pub fn hold_profile(
+    part: &'static str,
+    judged: &Judged,
+    fences: Fences,
+    random: &mut Random,
+    counts: &mut Counts,
+) -> Checked {
+    let room = judged.expected.as_ref().map_or(0, String::len);
+    let render = Asked::Render(random.bytes(room));
+    let calls = [Asked::Profile, Asked::Measure, render].map(with_options);
+    counts.tree(part, judged);
+    make(&calls, judged, part, fences, counts)
 }
 
 /// The same, but where no option means anything, each call is made with options and without.
@@ -132,32 +167,41 @@ pub fn hold_both(
             asked: asked.clone(),
         })
     });
-    make(calls.collect(), part, judged, fences, counts)
+    counts.tree(part, judged);
+    make(&calls.collect::<Vec<_>>(), judged, part, fences, counts)
 }
 
+fn with_options(asked: Asked) -> Call {
+    let with_options = true;
+    Call {
+        with_options,
+        asked,
+    }
+}
+
+/// Makes the calls, and holds each to what is due.
 fn make(
-    calls: Vec<Call>,
-    part: &'static str,
+    calls: &[Call],
     judged: &Judged,
+    part: &'static str,
     fences: Fences,
     counts: &mut Counts,
 ) -> Checked {
-    counts.tree(part, judged);
     let mut lent = Lent::new(&judged.case, fences);
     for call in calls {
-        let observed = lent.observed(&call);
+        let observed = lent.observed(call);
         let expected = call.expected(judged);
         if observed != expected {
             let case = judged.case.clone();
             return Err(Box::new(Difference {
                 part,
                 case,
-                call,
+                call: call.clone(),
                 expected,
                 observed,
             }));
         }
-        counts.call(&call, &observed);
+        counts.call(call, &observed);
     }
     Ok(())
 }

@@ -9,7 +9,7 @@ use model::grammar::{LIST, NONE, NUMBER, RUN, TEXT, TOKEN};
 use model::options::Edition;
 use model::record::{Record, MARK, MOST_BYTES, MOST_RECORDS, SIZE};
 use model::samples::{drawn_in, sample, Judged};
-use model::{editions, grow, options, sources};
+use model::{editions, grow, options, profile, sources};
 use std::collections::HashSet;
 use tokens::random::Random;
 use tokens::token::VALUE_PRESENT;
@@ -56,7 +56,7 @@ impl Pool {
         if random.one_in(LIMITS) {
             return ("at the limits of length", limits(random));
         }
-        match random.below(18) {
+        match random.below(19) {
             0 => ("random bytes", noise(random)),
             1 => ("random records", records(random)),
             2..=3 => ("a good tree", good(random)),
@@ -69,6 +69,7 @@ impl Pool {
                 "what the editions differ in",
                 drawn::tree(&EDITIONS, random).1,
             ),
+            17 => ("about the field profile", profile::drawn::drawn(random).1),
             _ => ("two trees joined", self.joined(random)),
         }
     }

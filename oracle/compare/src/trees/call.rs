@@ -2,15 +2,19 @@
 
 use crate::guarded::{Fence, Fences, Guarded, SHIFTS};
 #[cfg(feature = "selftest")]
+use crate::profile::stand_in::kinyandoma_profile;
+#[cfg(feature = "selftest")]
 use crate::trees::stand_in::{
     kinyandoma_measure, kinyandoma_measure_with, kinyandoma_render, kinyandoma_render_with,
 };
 use calls::Answer;
 #[cfg(not(feature = "selftest"))]
 use calls::{
-    kinyandoma_measure, kinyandoma_measure_with, kinyandoma_render, kinyandoma_render_with,
+    kinyandoma_measure, kinyandoma_measure_with, kinyandoma_profile, kinyandoma_render,
+    kinyandoma_render_with,
 };
 use model::damage::Case;
+use model::profile::{first_break, BROKEN};
 use model::samples::Judged;
 
 /// The number of an output that is too short.
@@ -27,6 +31,8 @@ pub struct Call {
 #[derive(Clone)]
 pub enum Asked {
     Measure,
+    /// The field profile, for which there is only a call with options.
+    Profile,
     /// With what stands in the output before.
     Render(Vec<u8>),
 }
@@ -80,6 +86,7 @@ impl Lent<'_> {
                 (Asked::Measure, true) => {
                     kinyandoma_measure_with(options, tree, tree_len, text, text_len)
                 }
+                (Asked::Profile, _) => kinyandoma_profile(options, tree, tree_len, text, text_len),
                 (Asked::Render(_), false) => {
                     kinyandoma_render(tree, tree_len, text, text_len, out, out_len)
                 }
@@ -102,20 +109,24 @@ impl Lent<'_> {
 }
 
 impl Call {
-    /// What stands in the output before; measure has none.
+    /// What stands in the output before; only render has one.
     pub fn before(&self) -> &[u8] {
         match &self.asked {
-            Asked::Measure => &[],
+            Asked::Measure | Asked::Profile => &[],
             Asked::Render(before) => before,
         }
     }
 
-    /// 8 comes last, and a refusal writes nothing.
+    /// 8 comes last, 11 behind measure's refusals, and a refusal writes nothing.
     pub fn expected(&self, judged: &Judged) -> Outcome {
         let before = self.before().to_vec();
         let (number, place, output) = match (&judged.expected, &self.asked) {
             (Err((number, place)), _) => (*number, *place, before),
             (Ok(text), Asked::Measure) => (0, text.len() as u32, before),
+            (Ok(text), Asked::Profile) => match first_break(&judged.case.tree) {
+                None => (0, text.len() as u32, before),
+                Some(index) => (BROKEN, index, before),
+            },
             (Ok(text), Asked::Render(_)) if text.len() > before.len() => {
                 (NO_ROOM, text.len() as u32, before)
             }

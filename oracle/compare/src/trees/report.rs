@@ -6,6 +6,7 @@ use crate::report::{Numbers, ANSWERS};
 use model::damage::Case;
 use model::grammar::{row, Class, LIST, NONE, NUMBER, RUN, TEXT, TOKEN};
 use model::outline::outline;
+use model::profile::BROKEN;
 use model::record::Record;
 use model::samples::Judged;
 use std::collections::{BTreeMap, BTreeSet};
@@ -21,6 +22,8 @@ pub struct Counts {
     /// Those without options, and those with them.
     measured: [Numbers; 2],
     rendered: [Numbers; 2],
+    /// There is none without options.
+    profiled: Numbers,
 }
 
 /// A kind in admitted trees.
@@ -59,20 +62,25 @@ impl Counts {
         self.with_runs += u64::from(run_for_kind);
     }
 
-    /// How often each of the four calls gave each answer.
+    /// How often each of the calls gave each answer; the profile's only if it was made.
     pub fn by_call(&self) -> Vec<(&'static str, &Numbers)> {
         let ([measure, measure_with], [render, render_with]) = (&self.measured, &self.rendered);
-        vec![
+        let mut calls = vec![
             ("measure", measure),
             ("measure_with", measure_with),
             ("render", render),
             ("render_with", render_with),
-        ]
+        ];
+        if self.profiled.iter().any(|&count| count > 0) {
+            calls.push(("profile", &self.profiled));
+        }
+        calls
     }
 
     /// How many calls were made.
     pub fn calls(&self) -> u64 {
-        self.measured.iter().chain(&self.rendered).flatten().sum()
+        let measured_or_rendered = self.measured.iter().chain(&self.rendered);
+        measured_or_rendered.flatten().chain(&self.profiled).sum()
     }
 
     /// How many trees of each part, and how many kinds stood in admitted ones.
@@ -88,11 +96,12 @@ impl Counts {
 
     /// Counts the answer.
     pub fn call(&mut self, call: &Call, outcome: &Outcome) {
+        let with_options = usize::from(call.with_options);
         let numbers = match call.asked {
-            Asked::Measure => &mut self.measured,
-            Asked::Render(_) => &mut self.rendered,
+            Asked::Measure => &mut self.measured[with_options],
+            Asked::Render(_) => &mut self.rendered[with_options],
+            Asked::Profile => &mut self.profiled,
         };
-        let numbers = &mut numbers[usize::from(call.with_options)];
         numbers[outcome.answer.number as usize] += 1;
     }
 }
@@ -120,18 +129,22 @@ impl fmt::Display for Counts {
     }
 }
 
-/// A table of how often each call gave each answer.
+/// A table of how often each call gave each answer; that of the profile only where it came.
 pub fn answers(calls: &[(&str, &Numbers)]) -> String {
-    let heads = ANSWERS.map(|number| number.to_string()).join(" | ");
+    let came = |number: usize| calls.iter().any(|(_, numbers)| numbers[number] > 0);
+    let profile = BROKEN as usize;
+    let due = ANSWERS.into_iter();
+    let due: Vec<usize> = due.filter(|&each| each != profile || came(each)).collect();
+    let heads: Vec<String> = due.iter().map(usize::to_string).collect();
     let mut table = format!(
-        "| Call | Calls | {heads} |\n|---|---|{}",
-        "---|".repeat(ANSWERS.len())
+        "| Call | Calls | {} |\n|---|---|{}",
+        heads.join(" | "),
+        "---|".repeat(due.len())
     );
     for (call, numbers) in calls {
         let all = numbers.iter().sum();
-        let cells = [all]
-            .into_iter()
-            .chain(ANSWERS.map(|number| numbers[number]));
+        let each = due.iter().map(|&number| numbers[number]);
+        let cells = [all].into_iter().chain(each);
         let cells: Vec<String> = cells.map(told).collect();
         table += &format!("\n| {call} | {} |", cells.join(" | "));
     }
@@ -169,6 +182,7 @@ impl fmt::Display for Difference {
         let before = self.call.before();
         let call = match &self.call.asked {
             Asked::Measure => "measure".to_string(),
+            Asked::Profile => "profile".to_string(),
             Asked::Render(_) => format!("render with room for {}", before.len()),
         };
         let options = match self.call.with_options {

@@ -105,7 +105,8 @@ pub unsafe extern "C" fn kinyandoma_render_with(
     packed(render(options, tree, text, out, out_len))
 }
 
-fn packed((number, place): Refusal) -> u64 {
+/// number * 2^32 + place.
+pub fn packed((number, place): Refusal) -> u64 {
     (u64::from(number) << NUMBER_AT) + u64::from(place)
 }
 
