@@ -30,10 +30,11 @@
  *   9       with KINYANDOMA_STRICT: the source of a CHECK ends inside a block           record of the source
  *           comment or inside a quote
  *   10      with KINYANDOMA_SQLITE: a without-rowid text is not WITHOUT and ROWID      record of the text
+ *   11      profile: the tree breaks the field profile                                  first record that breaks it
  *   12      the text or value is cut off: it ends in the middle of a character          first byte of that character
  *
  * The first that fits is answered. For a tree: 1, 2 or 12, then the records by index, and at each 3, 4, 5, 9, 10, 6; then
- * 7; then 8. For a job the same. For append: 1, 4, 2 or 12, 8. A place never exceeds 32 bits.
+ * 7; then 8, or for the profile 11. For a job the same. For append: 1, 4, 2 or 12, 8. A place never exceeds 32 bits.
  *
  * Of a text that is not UTF-8, 12 says that more bytes could have made it UTF-8 and 2 that none could: the bytes from
  * the place to the end are the beginning of some character, or they are not. E2 82 at the end is 12; F0 80, ED A0 and C0
@@ -58,8 +59,8 @@ uint64_t kinyandoma_measure(const uint8_t *tree, size_t tree_len, const uint8_t 
 uint64_t kinyandoma_render(const uint8_t *tree, size_t tree_len, const uint8_t *text, size_t text_len, uint8_t *out,
                            size_t out_len);
 
-/* Options of kinyandoma_measure_with, kinyandoma_render_with and kinyandoma_render_jobs: flags, joined with `|`. Other bits
- * are ignored. With 0 the first two answer and write as kinyandoma_measure and kinyandoma_render do. */
+/* Options of kinyandoma_measure_with, kinyandoma_render_with, kinyandoma_profile and kinyandoma_render_jobs: flags, joined
+ * with `|`. Other bits are ignored. With 0 the first two answer and write as kinyandoma_measure and kinyandoma_render do. */
 
 /* Refuse, with 9, a CHECK whose source would swallow the bracket behind it: a TEXT in a Check (103) that ends inside a block
  * comment or inside a quote. One that ends inside a line comment is written, since a newline is written behind it. A source
@@ -81,6 +82,14 @@ uint64_t kinyandoma_measure_with(uint32_t options, const uint8_t *tree, size_t t
 /* As kinyandoma_render, with options. */
 uint64_t kinyandoma_render_with(uint32_t options, const uint8_t *tree, size_t tree_len, const uint8_t *text,
                                 size_t text_len, uint8_t *out, size_t out_len);
+
+/* How long the text of a tree is, as kinyandoma_measure_with tells it, if the tree is of the field profile: what a unit under
+ * the small contract may receive. The tree is a CreateTable (38), CreateIndex (37), DropTable (46), DropIndex (45) or
+ * AlterTable (32), alone or in a Cmd (10) with flags 0; no RUN stands where a kind from 32 up may stand; and no record is
+ * deeper than 24, where the root, also a Cmd, is 1 deep. What the other calls refuse is refused as they do, and only then is
+ * the first record that breaks the profile told, with 11. Writes nothing. What is admitted here, the other calls admit, too,
+ * with the same text and options, and they write the same bytes for it as for any other tree. */
+uint64_t kinyandoma_profile(uint32_t options, const uint8_t *tree, size_t tree_len, const uint8_t *text, size_t text_len);
 
 /* One tree among many, and what became of it. The caller sets the first two, which may be any numbers; the call leaves them
  * as they are, and writes the other three, whatever stood there. */

@@ -1,8 +1,9 @@
 /* Calls the functions of libkinyandoma.a on good and bad input, as a C program does.
  *
  * What is expected is document 01's: section 6 for the cases, section 3 for the numbers and places; 12 is document 02's,
- * request ii, 9 its request vii, 10 its request viii, line and column are its request ix, and jobs its request i. Around
- * every lent part stand known bytes, which must stay. One line a case, and `N passed, M failed` at the end. */
+ * request ii, 9 its request vii, 10 its request viii, 11 its request xi, line and column are its request ix, and jobs its
+ * request i. Around every lent part stand known bytes, which must stay. One line a case, and
+ * `N passed, M failed` at the end. */
 #include "kinyandoma.h"
 
 #include <stdio.h>
@@ -737,6 +738,115 @@ static void depths(void) {
     tell("tree: depth 65 is 6", measured == answer(6, 2 * PAIRS));
 }
 
+/* ---- the field profile: request xi */
+
+#define NODE(kind, flags, children) 0x53, 0x4E, kind, 0, flags, 0, children, 0, 0, 0, 0, 0, 0, 0, 0, 0
+#define EMPTY_RUN NODE(3, 0, 0)
+#define EMPTY_LIST NODE(1, 0, 0)
+/* CREATE TABLE with one column, without a name; its body has the two LISTs and no options. */
+#define TABLE_OF(column) \
+    NODE(38, 0, 2), EMPTY_RUN, NODE(98, 0, 4), NODE(1, 0, 1), column, EMPTY_LIST, NOTHING, NOTHING
+#define COLUMN NODE(100, 0, 3), EMPTY_RUN, NOTHING, EMPTY_LIST
+
+typedef struct {
+    const char *name;
+    uint8_t tree[16 * 12];
+    size_t records;
+    const char *text;
+    uint32_t number; /* of 0 the place is what measure says */
+    uint32_t place;
+} profile_case;
+
+static const profile_case PROFILES[] = {
+    {"profile: DROP TABLE", {NODE(46, 0, 1), EMPTY_RUN}, 2, "", 0, 0},
+    {"profile: DROP INDEX in a Cmd", {CMD, NODE(45, 0, 1), EMPTY_RUN}, 3, "", 0, 0},
+    {"profile: ALTER TABLE", {NODE(32, 0, 2), EMPTY_RUN, NODE(93, 0, 1), EMPTY_RUN}, 4, "", 0, 0},
+    {"profile: CREATE INDEX",
+     {NODE(37, 0, 6), EMPTY_RUN, EMPTY_RUN, NOTHING, EMPTY_LIST, EMPTY_LIST, NOTHING},
+     7,
+     "",
+     0,
+     0},
+    {"profile: CREATE TABLE", {TABLE_OF(COLUMN)}, 11, "", 0, 0},
+    {"profile: a RUN for a column is 11", {TABLE_OF(EMPTY_RUN)}, 8, "", 11, 4},
+    {"profile: DROP VIEW is 11", {NODE(48, 0, 1), EMPTY_RUN}, 2, "", 11, 0},
+    {"profile: DROP VIEW in a Cmd is 11", {CMD, NODE(48, 0, 1), EMPTY_RUN}, 3, "", 11, 1},
+    {"profile: a RUN in a Cmd is 11", {CMD, EMPTY_RUN}, 2, "", 11, 1},
+    {"profile: a Cmd with flags is 11", {NODE(10, 1, 1), NODE(46, 0, 1), EMPTY_RUN}, 3, "", 11, 0},
+    {"profile: a LIST is 11", {NODE(1, 0, 1), NODE(46, 0, 1), EMPTY_RUN}, 3, "", 11, 0},
+    {"profile: a RUN is 11", {EMPTY_RUN}, 1, "", 11, 0},
+    {"profile: no tree is 1", {0}, 0, "", 1, 0},
+    {"profile: 12 comes before 11", {EMPTY_RUN}, 1, "\xC3", 12, 0},
+    {"profile: 4 comes before 11", {NODE(48, 2, 1), EMPTY_RUN}, 2, "", 4, 0},
+    {"profile: 7 comes before 11", {NODE(48, 0, 1)}, 1, "", 7, 1},
+};
+
+/* With all options and with none: they mean nothing to these trees. */
+static void profiled(const profile_case *c) {
+    static const uint32_t options[] = {0, KINYANDOMA_STRICT, KINYANDOMA_SQLITE, UINT32_MAX};
+    const uint8_t *text = (const uint8_t *)c->text;
+    size_t text_length = strlen(c->text), length = 16 * c->records;
+    int done = 1;
+    for (size_t at = 0; at < sizeof options / sizeof options[0]; at++) {
+        uint64_t measured = kinyandoma_measure_with(options[at], c->tree, length, text, text_length);
+        uint64_t expected = c->number == 0 ? measured : answer(c->number, c->place);
+        uint64_t given = kinyandoma_profile(options[at], c->tree, length, text, text_length);
+        done &= given == expected && given >> 32 == c->number && (measured >> 32 == 0 || measured == given);
+    }
+    tell(c->name, done);
+}
+
+/* An open CHECK is 9 where that is asked for, and breaks the profile else: it is no statement. */
+static void profile_of_source(void) {
+    static const uint8_t tree[] = {CHECK_OF(2)};
+    const uint8_t *text = (const uint8_t *)"/*";
+    int done = kinyandoma_profile(0, tree, sizeof tree, text, 2) == answer(11, 0);
+    done &= kinyandoma_profile(KINYANDOMA_STRICT, tree, sizeof tree, text, 2) == answer(9, 2);
+    tell("profile: 9 comes before 11", done);
+}
+
+/* CREATE TABLE AS SELECT with a table in `brackets`, below a Cmd or not. Answers the number of records. */
+static size_t nested_table(uint8_t *tree, size_t brackets, int in_cmd) {
+    enum { NONE = 0, LIST = 1, RUN = 3, FROM_CLAUSE = 85, TABLE = 87, SUB = 90 };
+    static const uint8_t before[] = {NODE(38, 0, 2), EMPTY_RUN, NODE(99, 0, 1), NODE(80, 0, 4), NOTHING,
+                                     NODE(81, 0, 2), NODE(83, 0, 6), NOTHING, EMPTY_LIST};
+    static const uint8_t behind[] = {NOTHING, NOTHING, EMPTY_LIST, EMPTY_LIST, NOTHING, NOTHING};
+    size_t next = 0;
+    if (in_cmd) {
+        put(tree, next++, 10, 1);
+    }
+    memcpy(tree + 16 * next, before, sizeof before);
+    next += sizeof before / 16;
+    for (size_t at = 0; at < brackets; at++) {
+        put(tree, next++, FROM_CLAUSE, 2);
+        put(tree, next++, SUB, 2);
+    }
+    put(tree, next++, FROM_CLAUSE, 2);
+    put(tree, next++, TABLE, 3);
+    put(tree, next++, RUN, 0);
+    put(tree, next++, NONE, 0);
+    put(tree, next++, NONE, 0);
+    put(tree, next++, LIST, 0);
+    for (size_t at = 0; at < brackets; at++) {
+        put(tree, next++, NONE, 0);
+        put(tree, next++, LIST, 0);
+    }
+    memcpy(tree + 16 * next, behind, sizeof behind);
+    return next + sizeof behind / 16;
+}
+
+/* With eight brackets the table's name is 24 deep; a Cmd is counted. */
+static void profile_depths(void) {
+    enum { BRACKETS = 8, NAME = 9 + 2 * BRACKETS + 2, RECORDS = 64 };
+    static uint8_t tree[16 * RECORDS];
+    const uint8_t *text = (const uint8_t *)"";
+    size_t length = 16 * nested_table(tree, BRACKETS, 0);
+    uint64_t given = kinyandoma_profile(0, tree, length, text, 0);
+    tell("profile: depth 24 passes", given >> 32 == 0 && given == kinyandoma_measure(tree, length, text, 0));
+    length = 16 * nested_table(tree, BRACKETS, 1);
+    tell("profile: depth 25 is 11", kinyandoma_profile(0, tree, length, text, 0) == answer(11, 1 + NAME));
+}
+
 int main(void) {
     memset(long_value, 'x', sizeof long_value);
     memset(long_text, 0xFF, sizeof long_text);
@@ -762,6 +872,11 @@ int main(void) {
     for (size_t at = 0; at < sizeof LISTS / sizeof LISTS[0]; at++) {
         list_of_jobs(&LISTS[at]);
     }
+    for (size_t at = 0; at < sizeof PROFILES / sizeof PROFILES[0]; at++) {
+        profiled(&PROFILES[at]);
+    }
+    profile_of_source();
+    profile_depths();
     printf("%d passed, %d failed\n", passed, failed);
     return failed != 0;
 }

@@ -34,6 +34,13 @@ extern "C" {
         out: *mut u8,
         out_len: usize,
     ) -> u64;
+    fn kinyandoma_profile(
+        options: u32,
+        tree: *const u8,
+        tree_len: usize,
+        text: *const u8,
+        text_len: usize,
+    ) -> u64;
     fn kinyandoma_append(
         record: *mut u8,
         record_len: usize,
@@ -138,6 +145,21 @@ pub fn render_with(options: u32, tree: &[u8], text: &[u8], out: &mut [u8]) -> An
             text.len(),
             out.as_mut_ptr(),
             out.len(),
+        )
+    };
+    Answer::unpacked(packed)
+}
+
+/// How long the text of a tree of the field profile is, by a call with options.
+pub fn profile(options: u32, tree: &[u8], text: &[u8]) -> Answer {
+    // Safe: both slices are valid for their lengths.
+    let packed = unsafe {
+        kinyandoma_profile(
+            options,
+            tree.as_ptr(),
+            tree.len(),
+            text.as_ptr(),
+            text.len(),
         )
     };
     Answer::unpacked(packed)

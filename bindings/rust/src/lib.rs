@@ -171,6 +171,45 @@ pub fn render_to_string_with(
     Ok(string(render_to_vec_with(options, tree, text)?))
 }
 
+/// How long the text of a tree is, as [`measure`] tells it, if the tree is of the field profile.
+///
+/// The profile is what a unit under the small contract may receive: CREATE TABLE, CREATE INDEX, DROP TABLE, DROP INDEX or
+/// ALTER TABLE, alone or in a [`Kind::Cmd`] without flags, with no RUN where a [`Node`] may stand, and nested at most
+/// 24 deep, the Cmd counted. What [`measure`] refuses is refused as there; a tree that breaks the profile is refused with 11
+/// and the first record that breaks it. [`render`] writes the same bytes for a tree, whether it is of the profile or not.
+///
+/// ```
+/// use kinyandoma::{id, measure, profile, Kind, Node, Reason};
+///
+/// let (tree, text) = Node::new(Kind::DropTable).child(id("readings")).finish()?;
+/// assert_eq!(profile(&tree, &text)?, "DROP TABLE readings".len());
+///
+/// let view = Node::new(Kind::DropView).child(id("latest"));
+/// let (tree, text) = Node::new(Kind::Cmd).child(view).finish()?;
+/// assert!(measure(&tree, &text).is_ok());
+/// let refusal = profile(&tree, &text).unwrap_err();
+/// assert_eq!((refusal.number, refusal.place), (11, 1));
+/// assert_eq!(refusal.reason, Reason::Profile);
+/// # Ok::<(), Box<dyn std::error::Error>>(())
+/// ```
+pub fn profile(tree: &[u8], text: &[u8]) -> Result<usize, Refusal> {
+    profile_with(Options::new(), tree, text)
+}
+
+/// As [`profile`], with options: what [`measure_with`] refuses is refused as there.
+///
+/// ```
+/// use kinyandoma::{id, profile_with, Kind, Node, Options};
+///
+/// let (tree, text) = Node::new(Kind::DropIndex).child(id("by_meter")).finish()?;
+/// let options = Options::new().strict(true).sqlite(true);
+/// assert_eq!(profile_with(options, &tree, &text)?, "DROP INDEX by_meter".len());
+/// # Ok::<(), Box<dyn std::error::Error>>(())
+/// ```
+pub fn profile_with(options: Options, tree: &[u8], text: &[u8]) -> Result<usize, Refusal> {
+    settled(Asked::Tree, calls::profile(options.bits(), tree, text))
+}
+
 /// What a call has written.
 fn string(bytes: Vec<u8>) -> String {
     String::from_utf8(bytes).expect("whole characters of UTF-8")

@@ -35,7 +35,7 @@ pub const MOST_BYTES: usize = 65_536;
 #[derive(Clone, Copy, Debug, PartialEq, Eq)]
 #[non_exhaustive]
 pub struct Refusal {
-    /// 1 to 10 or 12, as include/kinyandoma.h lists them.
+    /// 1 to 12, as include/kinyandoma.h lists them.
     pub number: u32,
     /// A record's index, a byte of the text, or the length that is needed: the reason tells which.
     pub place: usize,
@@ -81,6 +81,8 @@ pub enum Reason {
     /// 10, with [`Options::sqlite`](crate::Options::sqlite): the without-rowid text that the record at the place names is not
     /// WITHOUT and ROWID.
     WithoutRowid,
+    /// 11, [`profile`](crate::profile): the record at the place is the first that breaks the field profile.
+    Profile,
 }
 
 /// Which sort of call was made: the numbers 1 and 4 mean something else in an append, and 1 for a job outside its buffer.
@@ -121,6 +123,7 @@ fn reason(asked: Asked, number: u32, place: usize) -> Reason {
         (8, _) => Reason::NoRoom,
         (9, _) => Reason::OpenSource,
         (10, _) => Reason::WithoutRowid,
+        (11, _) => Reason::Profile,
         (12, _) => Reason::CutOff,
         (number, _) => {
             panic!("libkinyandoma.a answers {number}: it is not the library of this crate")
@@ -194,6 +197,11 @@ impl Reason {
             Reason::WithoutRowid => (
                 "the without-rowid text of record {place} is not the two words WITHOUT and ROWID",
                 "write these two, or NONE: SQLite reads nothing else there",
+            ),
+            Reason::Profile => (
+                "record {place} breaks the field profile: it is none of the five statements, a Cmd with flags, a RUN in the \
+                 place of a node, or deeper than 24",
+                "send CREATE TABLE, CREATE INDEX, DROP TABLE, DROP INDEX or ALTER TABLE, of nodes throughout, and nest less",
             ),
         }
     }
