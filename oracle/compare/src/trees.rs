@@ -105,13 +105,9 @@ pub fn hold(
     random: &mut Random,
     counts: &mut Counts,
 ) -> Checked {
-    let asked = asked(judged, random);
-    let calls = asked.into_iter().map(|asked| Call {
-        with_options: judged.case.options & MEANT != 0 || random.one_in(2),
-        asked,
-    });
+    let calls = drawn_calls(judged, random);
     counts.tree(part, judged);
-    make(&calls.collect::<Vec<_>>(), judged, part, fences, counts)
+    make(&calls, judged, part, fences, counts)
 }
 
 /// The same calls, and the field profile.
@@ -122,14 +118,10 @@ pub fn hold_with_profile(
     random: &mut Random,
     counts: &mut Counts,
 ) -> Checked {
-    hold(part, judged, fences, random, counts)?;
-    make(
-        &[with_options(Asked::Profile)],
-        judged,
-        part,
-        fences,
-        counts,
-    )
+    let mut calls = drawn_calls(judged, random);
+    calls.push(with_options(Asked::Profile));
+    counts.tree(part, judged);
+    make(&calls, judged, part, fences, counts)
 }
 
 /// The field profile and measure, and render with just the room, all with options: what the profile admits must be measured
@@ -169,6 +161,16 @@ pub fn hold_both(
     });
     counts.tree(part, judged);
     make(&calls.collect::<Vec<_>>(), judged, part, fences, counts)
+}
+
+/// Where no option means anything, each with options or without.
+fn drawn_calls(judged: &Judged, random: &mut Random) -> Vec<Call> {
+    let asked = asked(judged, random);
+    let calls = asked.into_iter().map(|asked| Call {
+        with_options: judged.case.options & MEANT != 0 || random.one_in(2),
+        asked,
+    });
+    calls.collect()
 }
 
 fn with_options(asked: Asked) -> Call {
