@@ -118,11 +118,14 @@ pub fn render(tree: &[u8], text: &[u8], out: &mut [u8]) -> Answer {
     Answer::unpacked(packed)
 }
 
-/// How long the text of a tree is, by a call with options.
-pub fn measure_with(options: u32, tree: &[u8], text: &[u8]) -> Answer {
+/// A call that takes options, a tree and its text.
+type OverTree = unsafe extern "C" fn(u32, *const u8, usize, *const u8, usize) -> u64;
+
+/// What such a call answers.
+fn asked(call: OverTree, options: u32, tree: &[u8], text: &[u8]) -> Answer {
     // Safe: both slices are valid for their lengths.
     let packed = unsafe {
-        kinyandoma_measure_with(
+        call(
             options,
             tree.as_ptr(),
             tree.len(),
@@ -131,6 +134,11 @@ pub fn measure_with(options: u32, tree: &[u8], text: &[u8]) -> Answer {
         )
     };
     Answer::unpacked(packed)
+}
+
+/// How long the text of a tree is, by a call with options.
+pub fn measure_with(options: u32, tree: &[u8], text: &[u8]) -> Answer {
+    asked(kinyandoma_measure_with, options, tree, text)
 }
 
 /// The text of a tree, written to `out` by a call with options.
@@ -152,17 +160,7 @@ pub fn render_with(options: u32, tree: &[u8], text: &[u8], out: &mut [u8]) -> An
 
 /// How long the text of a tree of the field profile is, by a call with options.
 pub fn profile(options: u32, tree: &[u8], text: &[u8]) -> Answer {
-    // Safe: both slices are valid for their lengths.
-    let packed = unsafe {
-        kinyandoma_profile(
-            options,
-            tree.as_ptr(),
-            tree.len(),
-            text.as_ptr(),
-            text.len(),
-        )
-    };
-    Answer::unpacked(packed)
+    asked(kinyandoma_profile, options, tree, text)
 }
 
 /// The texts of many trees, written to `out` one behind the other; answers the bytes written in all.
