@@ -15,46 +15,46 @@ use Rattle.std.proofs.Math.Dec.{eqb}
 use Rattle.laws.specs.Little.{little}
 use Rattle.laws.specs.Text.{ascii}
 use Rattle.laws.specs.Tests.{and_parts}
-use Rattle.spelling.specs.Token.{TK-COMMA}
+use Rattle.spelling.specs.Token.{TK_COMMA}
 use Rattle.mode.specs.declared.Edition.TheVariants.{Crate, Sqlite}
 use Rattle.stream.specs.Stream as stream
 use Rattle.stream.specs.Stream.{Token}
-use Rattle.stream.specs.Doubled.{hasQuote, doubled-none}
-use Rattle.record.specs.Record.{count, bytes_at, recordAt}
+use Rattle.stream.specs.Doubled.{has_quote, doubled_none}
+use Rattle.record.specs.Record.{count, bytes_at, record_at}
 use Rattle.record.specs.declared.Record.{Record}
 use Rattle.grammar.specs.Kind.{NONE, LIST, TOKEN, RUN, TEXT, ColumnsAndConstraints, OperatorClause, NamedTableConstraint, REPLACE}
 use Rattle.grammar.specs.Shape.{Shape, nothing, token, ident, word, said, line, when, is, slot, each, commas, row, lines, tuples, given, filled, replacing, decimal, brackets, quoted, rowid, source, both, later, ◌·◌}
-use Rattle.grammar.specs.Grammar.{text, maybe, columnDefinition, parens, shape}
+use Rattle.grammar.specs.Grammar.{text, maybe, column_definition, parens, shape}
 use Rattle.grammar.specs.Grammar.{node as node_of}
 use Rattle.grammar.specs.Slots.{allowed}
 use Rattle.grammar.specs.Entries.{entry}
 use Rattle.tree.specs.Check.{Checks}
 use Rattle.tree.specs.declared.Answer.TheVariants.{Admitted}
 use Rattle.tokens.specs.Corners.{id, inner, quote, without}
-use Rattle.tokens.specs.Tokens.{Source, inEdition, Out, at, behind, part, tokenOf, flagged, say, of, then, rows, listed, placed, checked, anything, between, means, node, deepest, whole, tokensOf, text_of}
-use Rattle.admitted.specs.Watched.{wholeBy}
+use Rattle.tokens.specs.Tokens.{Source, in_edition, Out, at, behind, part, token_of, flagged, say, of, then, rows, listed, placed, checked, anything, between, means, node, deepest, whole, tokens_of, text_of}
+use Rattle.admitted.specs.Watched.{whole_by}
 use Rattle.admitted.specs.Same.{swapped}
 use Rattle.admitted.specs.Solved.{Solves, solved}
-use Rattle.admitted.specs.Admitted.{as-solved}
+use Rattle.admitted.specs.Admitted.{as_solved}
 
 -- what ColumnsAndConstraints writes before its options, and its options
 abbrev pub columns : Shape
-columns = parens (commas columnDefinition · filled (word TK-COMMA · commas (node_of (NamedTableConstraint ∷ []))))
+columns = parens (commas column_definition · filled (word TK_COMMA · commas (node_of (NamedTableConstraint ∷ []))))
 
 abbrev pub options : Shape
 options = both rowid (slot (maybe text))
 
-pub columns-first : shape ColumnsAndConstraints ≡ columns · options
+pub columns_first : shape ColumnsAndConstraints ≡ columns · options
 unfolding shape
-columns-first = refl
+columns_first = refl
 
 -- the index of the first option of the ColumnsAndConstraints at j: the one behind its brackets
-unfoldable pub firstOption : Source → ℕ → ℕ
-firstOption e j = (means e (node e (count e.tree)) (at e j) columns (behind e j)).next
+unfoldable pub first_option : Source → ℕ → ℕ
+first_option e j = (means e (node e (count e.tree)) (at e j) columns (behind e j)).next
 
 -- whether both options are there, the first one at j: an option is a TEXT, and NONE where there is none
-abbrev pub bothAt : Source → ℕ → Bool
-bothAt e j = eqb (at e j).kind TEXT && eqb (at e (behind e j)).kind TEXT
+abbrev pub both_at : Source → ℕ → Bool
+both_at e j = eqb (at e j).kind TEXT && eqb (at e (behind e j)).kind TEXT
 
 -- a case: the brackets have one column, a RUN of one TOKEN, and an empty LIST of constraints
 abbrev rec : ℕ → ℕ → List ℕ
@@ -63,19 +63,19 @@ rec kind kids = 0x53 ∷ 0x4E ∷ little 2 kind ++ little 2 0 ++ little 2 kids +
 abbrev tree : List ℕ
 tree = rec ColumnsAndConstraints 4 ++ rec LIST 1 ++ rec RUN 1 ++ rec TOKEN 0 ++ rec LIST 0 ++ rec TEXT 0 ++ rec TEXT 0
 
-first-case : firstOption (inEdition tree [] Crate) 0 ≡ 5
-unfolding firstOption node means placed listed rows behind allowed shape recordAt bytes_at
-first-case = refl
+first_case : first_option (in_edition tree [] Crate) 0 ≡ 5
+unfolding first_option node means placed listed rows behind allowed shape record_at bytes_at
+first_case = refl
 
-both-case : bothAt (inEdition tree [] Crate) 5 ≡ true
-unfolding behind recordAt bytes_at
-both-case = refl
+both_case : both_at (in_edition tree [] Crate) 5 ≡ true
+unfolding behind record_at bytes_at
+both_case = refl
 
 -- "no operator text with a quote, not both table options"
 pub record Alike (e : Source) : Type 0 where
   -- the operator's text is the clause's first child
-  pub noQuote : (j : ℕ) → (at e j).kind ≡ OperatorClause → hasQuote (part e (at e (behind e j))) ≡ false
-  pub notBoth : (j : ℕ) → (at e j).kind ≡ ColumnsAndConstraints → bothAt e (firstOption e j) ≡ false
+  pub no_quote : (j : ℕ) → (at e j).kind ≡ OperatorClause → has_quote (part e (at e (behind e j))) ≡ false
+  pub not_both : (j : ℕ) → (at e j).kind ≡ ColumnsAndConstraints → both_at e (first_option e j) ≡ false
 
 -- ---- a shape that does not look at the edition
 unfoldable free : Shape → Bool
@@ -106,68 +106,68 @@ free (later a b) = free a && free b
 free (a · b) = free a && free b
 
 -- all entries but two
-all-free : (k : ℕ) → eqb k OperatorClause ≡ false → eqb k ColumnsAndConstraints ≡ false → free (shape k) ≡ true
+all_free : (k : ℕ) → eqb k OperatorClause ≡ false → eqb k ColumnsAndConstraints ≡ false → free (shape k) ≡ true
 unfolding free
-all-free k p q =
+all_free k p q =
     rw (p, q) at (entry (λ m s. (eqb m OperatorClause || eqb m ColumnsAndConstraints) || free s) k (or-true (eqb k OperatorClause || eqb k ColumnsAndConstraints)) refl)
 
 -- no comma where not both are written
-no-comma : (ts us : List Token) → anything ts && anything us ≡ false → between Sqlite ts us ≡ between Crate ts us
+no_comma : (ts us : List Token) → anything ts && anything us ≡ false → between Sqlite ts us ≡ between Crate ts us
 unfolding between
-no-comma ts us h = rw h
+no_comma ts us h = rw h
 
 -- ---- a tree and its text
 module _ (t x : List ℕ) where
   abbrev crate : Source
-  crate = inEdition t x Crate
+  crate = in_edition t x Crate
 
   abbrev sqlite : Source
-  sqlite = inEdition t x Sqlite
+  sqlite = in_edition t x Sqlite
 
   -- whatever the records below write, as f says
   module _ (f : ℕ → ℕ → Out) (r : Record) where
-    means-free : (a : Shape) → free a ≡ true → (j : ℕ) → means sqlite f r a j ≡ means crate f r a j
-    unfolding means free placed listed checked tokenOf behind
-    means-free nothing h j = refl
-    means-free token h j = refl
-    means-free ident h j = refl
-    means-free (word w) h j = refl
-    means-free (said w) h j = refl
-    means-free (line w) h j = refl
-    means-free (when bit a) h j = ap (λ (o : Out). cond (flagged bit r) o (say [] j)) (means-free a h j)
-    means-free (is n a) h j = ap (λ (o : Out). cond (eqb r.flags n) o (say [] j)) (means-free a h j)
-    means-free (slot d) h j = refl
-    means-free (each d) h j = refl
-    means-free (commas d) h j = refl
-    means-free (row d) h j = refl
-    means-free (lines d w) h j = refl
-    means-free (tuples d) h j = refl
-    means-free (given a) h j = ap (cond (eqb (at crate j).kind NONE) (of crate j [])) (means-free a h j)
-    means-free (filled a) h j = ap (cond (eqb (at crate j).kids 0) (of crate j [])) (means-free a h j)
-    means-free (replacing a b) h j =
+    means_free : (a : Shape) → free a ≡ true → (j : ℕ) → means sqlite f r a j ≡ means crate f r a j
+    unfolding means free placed listed checked token_of behind
+    means_free nothing h j = refl
+    means_free token h j = refl
+    means_free ident h j = refl
+    means_free (word w) h j = refl
+    means_free (said w) h j = refl
+    means_free (line w) h j = refl
+    means_free (when bit a) h j = ap (λ (o : Out). cond (flagged bit r) o (say [] j)) (means_free a h j)
+    means_free (is n a) h j = ap (λ (o : Out). cond (eqb r.flags n) o (say [] j)) (means_free a h j)
+    means_free (slot d) h j = refl
+    means_free (each d) h j = refl
+    means_free (commas d) h j = refl
+    means_free (row d) h j = refl
+    means_free (lines d w) h j = refl
+    means_free (tuples d) h j = refl
+    means_free (given a) h j = ap (cond (eqb (at crate j).kind NONE) (of crate j [])) (means_free a h j)
+    means_free (filled a) h j = ap (cond (eqb (at crate j).kids 0) (of crate j [])) (means_free a h j)
+    means_free (replacing a b) h j =
         let p = and_parts (free a) (free b) h in
-        ap₂ (cond (eqb (at crate j).kind REPLACE)) (means-free a p.0 j) (means-free b p.1 j)
-    means-free decimal h j = refl
-    means-free brackets h j = refl
-    means-free quoted h j = absurd (false≢true h)
-    means-free rowid h j = refl
-    means-free source h j = refl
-    means-free (both a b) h j = absurd (false≢true h)
-    means-free (later a b) h j =
+        ap₂ (cond (eqb (at crate j).kind REPLACE)) (means_free a p.0 j) (means_free b p.1 j)
+    means_free decimal h j = refl
+    means_free brackets h j = refl
+    means_free quoted h j = absurd (false≢true h)
+    means_free rowid h j = refl
+    means_free source h j = refl
+    means_free (both a b) h j = absurd (false≢true h)
+    means_free (later a b) h j =
         let p = and_parts (free a) (free b) h in
-        ap₂ swapped (means-free a p.0 j) (fun_ext (means-free b p.1))
-    means-free (a · b) h j =
+        ap₂ swapped (means_free a p.0 j) (fun_ext (means_free b p.1))
+    means_free (a · b) h j =
         let p = and_parts (free a) (free b) h in
-        ap₂ then (means-free a p.0 j) (fun_ext (means-free b p.1))
+        ap₂ then (means_free a p.0 j) (fun_ext (means_free b p.1))
 
     -- ---- an operator's text
-    means-quoted : (j : ℕ) → hasQuote (part crate (at crate j)) ≡ false → means sqlite f r quoted j ≡ means crate f r quoted j
+    means_quoted : (j : ℕ) → has_quote (part crate (at crate j)) ≡ false → means sqlite f r quoted j ≡ means crate f r quoted j
     unfolding means quote inner behind
-    means-quoted j h = rw (doubled-none (part crate (at crate j)) h)
+    means_quoted j h = rw (doubled_none (part crate (at crate j)) h)
 
-    means-operator : (j : ℕ) → hasQuote (part crate (at crate j)) ≡ false → means sqlite f r (shape OperatorClause) j ≡ means crate f r (shape OperatorClause) j
+    means_operator : (j : ℕ) → has_quote (part crate (at crate j)) ≡ false → means sqlite f r (shape OperatorClause) j ≡ means crate f r (shape OperatorClause) j
     unfolding means shape placed behind
-    means-operator j h = ap (λ (o : Out). then (say (id (ascii "OPERATOR") ∷ []) j) (λ k. then o (means crate f r (slot (maybe text))))) (means-quoted j h)
+    means_operator j h = ap (λ (o : Out). then (say (id (ascii "OPERATOR") ∷ []) j) (λ k. then o (means crate f r (slot (maybe text))))) (means_quoted j h)
 
     -- ---- the options: the second one writes nothing where it is no TEXT
     second_none : Solves crate f → (j : ℕ) → eqb (at crate j).kind TEXT ≡ false → (placed crate f (maybe text) j).tokens ≡ []
@@ -181,60 +181,60 @@ module _ (t x : List ℕ) where
         by false z = rw q
 
     -- nor does the first one, so where not both are there, not both are written
-    not-both : Solves crate f → (j : ℕ) → bothAt crate j ≡ false
+    not_both_lem : Solves crate f → (j : ℕ) → both_at crate j ≡ false
         → anything (means crate f r rowid j).tokens && anything (placed crate f (maybe text) (behind crate j)).tokens ≡ false
     unfolding means anything
-    not-both solves j h = by (eqb (at crate j).kind TEXT) h
+    not_both_lem solves j h = by (eqb (at crate j).kind TEXT) h
       where
         by : (b : Bool) → b && eqb (at crate (behind crate j)).kind TEXT ≡ false
             → anything (cond b (without (part crate (at crate j))) []) && anything (placed crate f (maybe text) (behind crate j)).tokens ≡ false
         by true q = rw (second_none solves (behind crate j) q, and-false (anything (without (part crate (at crate j)))))
         by false q = refl
 
-    means-options : Solves crate f → (j : ℕ) → bothAt crate j ≡ false → means sqlite f r options j ≡ means crate f r options j
+    means_options : Solves crate f → (j : ℕ) → both_at crate j ≡ false → means sqlite f r options j ≡ means crate f r options j
     unfolding means placed behind
-    means-options solves j h =
+    means_options solves j h =
         let a = means crate f r rowid j in
         let b = placed crate f (maybe text) (behind crate j) in
-        ap (λ (m : List Token). record { tokens = a.tokens ++ (m ++ b.tokens); next = b.next }) (no-comma a.tokens b.tokens (not-both solves j h))
+        ap (λ (m : List Token). record { tokens = a.tokens ++ (m ++ b.tokens); next = b.next }) (no_comma a.tokens b.tokens (not_both_lem solves j h))
 
     -- the brackets, and the options behind them
-    means-columns : Solves crate f → (j : ℕ) → bothAt crate (means crate f r columns j).next ≡ false
+    means_columns : Solves crate f → (j : ℕ) → both_at crate (means crate f r columns j).next ≡ false
         → means sqlite f r (columns · options) j ≡ means crate f r (columns · options) j
     unfolding means free
-    means-columns solves j h =
-        ap (λ (o : Out). then o (means sqlite f r options)) (means-free columns refl j)
-        ∙ ap (λ (o : Out). then (means crate f r columns j) (λ k. o)) (means-options solves (means crate f r columns j).next h)
+    means_columns solves j h =
+        ap (λ (o : Out). then o (means sqlite f r options)) (means_free columns refl j)
+        ∙ ap (λ (o : Out). then (means crate f r columns j) (λ k. o)) (means_options solves (means crate f r columns j).next h)
 
   -- what each record writes in the crate's edition
   abbrev written : ℕ → ℕ → Out
   written = node crate (count t)
 
   -- one function for both editions, for every tree
-  pub solves-both : Alike crate → Solves sqlite written
-  unfolding behind firstOption
-  solves-both alike j = solved crate j ∙ sym (by (eqb k OperatorClause) (eqb k ColumnsAndConstraints) refl refl)
+  pub solves_both : Alike crate → Solves sqlite written
+  unfolding behind first_option
+  solves_both alike j = solved crate j ∙ sym (by (eqb k OperatorClause) (eqb k ColumnsAndConstraints) refl refl)
     where
       k : ℕ
       k = (at crate j).kind
 
       by : (a b : Bool) → eqb k OperatorClause ≡ a → eqb k ColumnsAndConstraints ≡ b
           → means sqlite written (at crate j) (shape k) (behind crate j) ≡ means crate written (at crate j) (shape k) (behind crate j)
-      by true b p q = let z = eqb-true k OperatorClause p in rw (ap shape z) (means-operator written (at crate j) (behind crate j) (alike.noQuote j z))
+      by true b p q = let z = eqb-true k OperatorClause p in rw (ap shape z) (means_operator written (at crate j) (behind crate j) (alike.no_quote j z))
       by false true p q =
           let z = eqb-true k ColumnsAndConstraints q in
-          rw (ap shape z ∙ columns-first) (means-columns written (at crate j) (solved crate) (behind crate j) (alike.notBoth j z))
-      by false false p q = means-free written (at crate j) (shape k) (all-free k p q) (behind crate j)
+          rw (ap shape z ∙ columns_first) (means_columns written (at crate j) (solved crate) (behind crate j) (alike.not_both j z))
+      by false false p q = means_free written (at crate j) (shape k) (all_free k p q) (behind crate j)
 
   same_whole : Checks t x Admitted → Alike crate → whole sqlite deepest ≡ whole crate deepest
-  unfolding wholeBy listed placed behind
-  same_whole admitted alike = sym (as-solved sqlite admitted written (solves-both alike)) ∙ as-solved crate admitted written (solved crate)
+  unfolding whole_by listed placed behind
+  same_whole admitted alike = sym (as_solved sqlite admitted written (solves_both alike)) ∙ as_solved crate admitted written (solved crate)
 
 -- ---- a tree that the check admits, byte for byte
-pub same-tokens : (t x : List ℕ) → Checks t x Admitted → Alike (inEdition t x Crate) → tokensOf (inEdition t x Sqlite) ≡ tokensOf (inEdition t x Crate)
-unfolding tokensOf
-same-tokens t x admitted alike = ap (λ (o : Out). o.tokens) (same_whole t x admitted alike)
+pub same_tokens : (t x : List ℕ) → Checks t x Admitted → Alike (in_edition t x Crate) → tokens_of (in_edition t x Sqlite) ≡ tokens_of (in_edition t x Crate)
+unfolding tokens_of
+same_tokens t x admitted alike = ap (λ (o : Out). o.tokens) (same_whole t x admitted alike)
 
-pub same_text : (t x : List ℕ) → Checks t x Admitted → Alike (inEdition t x Crate) → text_of (inEdition t x Sqlite) ≡ text_of (inEdition t x Crate)
+pub same_text : (t x : List ℕ) → Checks t x Admitted → Alike (in_edition t x Crate) → text_of (in_edition t x Sqlite) ≡ text_of (in_edition t x Crate)
 unfolding text_of
-same_text t x admitted alike = ap (stream.text true) (same-tokens t x admitted alike)
+same_text t x admitted alike = ap (stream.text true) (same_tokens t x admitted alike)

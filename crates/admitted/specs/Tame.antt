@@ -7,18 +7,18 @@ use Rattle.std.proofs.Math.Bool.{or-true}
 use Rattle.laws.specs.Among.{all, each as each-among}
 use Rattle.laws.specs.Tests.{and_left, and_right}
 use Rattle.grammar.specs.Kind.{NONE, LIST, RUN, TEXT, NUMBER}
-use Rattle.grammar.specs.Shape.{Class, one, list, oneOr, small, ruled, Shape, nothing, token, ident, word, said, line, when, is, slot, each, commas, row, lines, tuples, given, filled, replacing, decimal, brackets, quoted, rowid, source, both, later, ◌·◌}
+use Rattle.grammar.specs.Shape.{Class, one, list, one_or, small, ruled, Shape, nothing, token, ident, word, said, line, when, is, slot, each, commas, row, lines, tuples, given, filled, replacing, decimal, brackets, quoted, rowid, source, both, later, ◌·◌}
 use Rattle.grammar.specs.Grammar.{shape}
 use Rattle.grammar.specs.Slots.{slots_of, allowed}
-use Rattle.grammar.specs.Packed.{sameClass}
-use Rattle.grammar.specs.Laws.{sameAll}
+use Rattle.grammar.specs.Packed.{same_class}
+use Rattle.grammar.specs.Laws.{same_all}
 use Rattle.grammar.specs.Entries.{entry}
 
 -- a place where no LIST may stand
 unfoldable pub plain : Class → Bool
 plain (one ks) = all (λ k. not (eqb k LIST)) ks
 plain (list c) = false
-plain (oneOr ks c) = false
+plain (one_or ks c) = false
 plain small = false
 plain (ruled u) = false
 
@@ -43,7 +43,7 @@ tame (lines c w) = plain c
 tame (tuples c) = plain c
 tame (given a) = slots 1 a && tame a
 tame (filled a) = slots 1 a && tame a
-tame (replacing a b) = sameAll (slots_of a) (slots_of b) && (tame a && tame b)
+tame (replacing a b) = same_all (slots_of a) (slots_of b) && (tame a && tame b)
 tame decimal = true
 tame brackets = true
 tame quoted = true
@@ -55,41 +55,41 @@ tame (a · b) = tame a && tame b
 
 -- all entries but a RUN's, which holds TOKENs and no slots
 pub tamed : (k : ℕ) → eqb k RUN ≡ false → tame (shape k) ≡ true
-unfolding tame plain slots_of sameAll sameClass
+unfolding tame plain slots_of same_all same_class
 tamed k n = rw n at (entry (λ m s. eqb m RUN || tame s) k (or-true (eqb k RUN)) refl)
 
-pub no-list : (c : Class) (k : ℕ) → plain c ≡ true → allowed c k ≡ true → eqb k LIST ≡ false
+pub no_list : (c : Class) (k : ℕ) → plain c ≡ true → allowed c k ≡ true → eqb k LIST ≡ false
 unfolding plain allowed
-no-list (one ks) k p h = not-true (eqb k LIST) (each-among (λ m. not (eqb m LIST)) k ks p h)
-no-list (list c) k p h = absurd (false≢true p)
-no-list (oneOr ks c) k p h = absurd (false≢true p)
-no-list small k p h = absurd (false≢true p)
-no-list (ruled u) k p h = absurd (false≢true p)
+no_list (one ks) k p h = not-true (eqb k LIST) (each-among (λ m. not (eqb m LIST)) k ks p h)
+no_list (list c) k p h = absurd (false≢true p)
+no_list (one_or ks c) k p h = absurd (false≢true p)
+no_list small k p h = absurd (false≢true p)
+no_list (ruled u) k p h = absurd (false≢true p)
 
 -- a kind whose records have no children, and a place where only such may stand
 abbrev pub barren : ℕ → Bool
 barren k = not (eqb k LIST) && (not (eqb k RUN) && slots 0 (shape k))
 
-unfoldable pub barrenPlace : Class → Bool
-barrenPlace (one ks) = all barren ks
-barrenPlace (list c) = false
-barrenPlace (oneOr ks c) = false
-barrenPlace small = barren NUMBER
-barrenPlace (ruled u) = barren NONE && barren TEXT
+unfoldable pub barren_place : Class → Bool
+barren_place (one ks) = all barren ks
+barren_place (list c) = false
+barren_place (one_or ks c) = false
+barren_place small = barren NUMBER
+barren_place (ruled u) = barren NONE && barren TEXT
 
-pub barren-kind : (c : Class) (k : ℕ) → barrenPlace c ≡ true → allowed c k ≡ true → barren k ≡ true
-unfolding barrenPlace allowed
-barren-kind (one ks) k p h = each-among barren k ks p h
-barren-kind (list c) k p h = absurd (false≢true p)
-barren-kind (oneOr ks c) k p h = absurd (false≢true p)
-barren-kind small k p h = rw (eqb-true k NUMBER h) p
-barren-kind (ruled u) k p h = by (eqb k NONE) refl h
+pub barren_kind : (c : Class) (k : ℕ) → barren_place c ≡ true → allowed c k ≡ true → barren k ≡ true
+unfolding barren_place allowed
+barren_kind (one ks) k p h = each-among barren k ks p h
+barren_kind (list c) k p h = absurd (false≢true p)
+barren_kind (one_or ks c) k p h = absurd (false≢true p)
+barren_kind small k p h = rw (eqb-true k NUMBER h) p
+barren_kind (ruled u) k p h = by (eqb k NONE) refl h
   where
     by : (b : Bool) → eqb k NONE ≡ b → (b || eqb k TEXT) ≡ true → barren k ≡ true
     by true q y = rw (eqb-true k NONE q) (and_left (barren NONE) (barren TEXT) p)
     by false q y = rw (eqb-true k TEXT y) (and_right (barren NONE) (barren TEXT) p)
 
 -- no slots
-pub none-held : (cs : List Class) → length cs ≡ 0 → cs ≡ []
-none-held [] h = refl
-none-held (d ∷ ds) h = absurd (omega arith)
+pub none_held : (cs : List Class) → length cs ≡ 0 → cs ≡ []
+none_held [] h = refl
+none_held (d ∷ ds) h = absurd (omega arith)

@@ -10,37 +10,37 @@ use Rattle.std.proofs.Math.Bool.{cond}
 use Rattle.stream.specs.Stream.{Token}
 use Rattle.record.specs.declared.Record.{Record}
 use Rattle.grammar.specs.Kind.{NONE, LIST, TOKEN, TEXT, NUMBER, REPLACE}
-use Rattle.grammar.specs.Shape.{Class, one, list, small, checkSource, withoutRowid, ruled, Shape, nothing, token, ident, word, said, line, when, is, slot, each, commas, row, lines, tuples, given, filled, replacing, decimal, brackets, quoted, rowid, source, both, later, ◌·◌}
-use Rattle.grammar.specs.Grammar.{run, text, number, maybe, root, rootKinds, shape}
+use Rattle.grammar.specs.Shape.{Class, one, list, small, check_source, without_rowid, ruled, Shape, nothing, token, ident, word, said, line, when, is, slot, each, commas, row, lines, tuples, given, filled, replacing, decimal, brackets, quoted, rowid, source, both, later, ◌·◌}
+use Rattle.grammar.specs.Grammar.{run, text, number, maybe, root, root_kinds, shape}
 use Rattle.grammar.specs.Slots.{slots_of, allowed}
 use Rattle.tokens.specs.Corners.{valued, newline, sourced}
-use Rattle.tokens.specs.Tokens.{Source, Out, at, behind, part, tokenOf, flagged, say, of, then, rows, listed, placed, ofKind, comma, bracketed, checked, means}
+use Rattle.tokens.specs.Tokens.{Source, Out, at, behind, part, token_of, flagged, say, of, then, rows, listed, placed, of_kind, comma, bracketed, checked, means}
 use Rattle.admitted.specs.Same.{joined}
 
 -- f, if the kind of the record at j may stand in the place c
-unfoldable pub inPlace : Source → (ℕ → Out) → Class → (ℕ → Out) → ℕ → Out
-inPlace e u c f j = cond (allowed c (at e j).kind) (f j) (u j)
+unfoldable pub in_place : Source → (ℕ → Out) → Class → (ℕ → Out) → ℕ → Out
+in_place e u c f j = cond (allowed c (at e j).kind) (f j) (u j)
 
 -- a child that is left out, where these places are held
-unfoldable pub leftOut : Source → (ℕ → Out) → List Class → ℕ → Out
-leftOut e u [] j = of e j []
-leftOut e u (c ∷ cs) j = inPlace e u c (λ k. of e k []) j
+unfoldable pub left_out : Source → (ℕ → Out) → List Class → ℕ → Out
+left_out e u [] j = of e j []
+left_out e u (c ∷ cs) j = in_place e u c (λ k. of e k []) j
 
-abbrev pub tokenPlace : Class
-tokenPlace = one (TOKEN ∷ [])
+abbrev pub token_place : Class
+token_place = one (TOKEN ∷ [])
 
 module _ (e : Source) (u : ℕ → Out) (f : ℕ → ℕ → Out) where
   -- a record in the place c
   unfoldable pub child : Class → ℕ → Out
-  child c j = inPlace e u c (placed e f c) j
+  child c j = in_place e u c (placed e f c) j
 
   -- a LIST of records in the place c, each as g says
   unfoldable pub items : Class → (ℕ → Out) → List Token → ℕ → Out
-  items c g sep j = inPlace e u (list c) (listed e g sep) j
+  items c g sep j = in_place e u (list c) (listed e g sep) j
 
   -- a CHECK's expression, written, with its source behind it
-  unfoldable pub behindRun : Out → Out
-  behindRun o = inPlace e (λ k. then o u) (ruled checkSource) (checked e o.tokens) o.next
+  unfoldable pub behind_run : Out → Out
+  behind_run o = in_place e (λ k. then o u) (ruled check_source) (checked e o.tokens) o.next
 
   -- `means`, clause by clause
   unfoldable pub watched : Record → Shape → ℕ → Out
@@ -53,27 +53,27 @@ module _ (e : Source) (u : ℕ → Out) (f : ℕ → ℕ → Out) where
   watched r (when bit a) j = cond (flagged bit r) (watched r a j) (say [] j)
   watched r (is n a) j = cond (eqb r.flags n) (watched r a j) (say [] j)
   watched r (slot c) j = child c j
-  watched r (each c) j = rows (inPlace e u tokenPlace (λ k. ofKind e TOKEN k (tokenOf e (at e k) ∷ []))) [] [] r.kids j
+  watched r (each c) j = rows (in_place e u token_place (λ k. of_kind e TOKEN k (token_of e (at e k) ∷ []))) [] [] r.kids j
   watched r (commas c) j = items c (child c) comma j
   watched r (row c) j = items c (child c) [] j
   watched r (lines c w) j = items c (λ k. then (child c k) (say (valued w newline ∷ []))) [] j
   watched r (tuples c) j = items (list c) (bracketed (items c (child c) comma)) comma j
-  watched r (given a) j = cond (eqb (at e j).kind NONE) (leftOut e u (slots_of a) j) (watched r a j)
-  watched r (filled a) j = cond (eqb (at e j).kids 0) (leftOut e u (slots_of a) j) (watched r a j)
+  watched r (given a) j = cond (eqb (at e j).kind NONE) (left_out e u (slots_of a) j) (watched r a j)
+  watched r (filled a) j = cond (eqb (at e j).kids 0) (left_out e u (slots_of a) j) (watched r a j)
   watched r (replacing a b) j = cond (eqb (at e j).kind REPLACE) (watched r a j) (watched r b j)
-  watched r decimal j = inPlace e u (maybe number) (means e f r decimal) j
-  watched r brackets j = inPlace e u small (means e f r brackets) j
-  watched r quoted j = inPlace e u text (means e f r quoted) j
-  watched r rowid j = inPlace e u (ruled withoutRowid) (means e f r rowid) j
-  watched r source j = behindRun (child run j)
+  watched r decimal j = in_place e u (maybe number) (means e f r decimal) j
+  watched r brackets j = in_place e u small (means e f r brackets) j
+  watched r quoted j = in_place e u text (means e f r quoted) j
+  watched r rowid j = in_place e u (ruled without_rowid) (means e f r rowid) j
+  watched r source j = behind_run (child run j)
   watched r (both a b) j = joined e.edition (watched r a j) (watched r b)
   watched r (later a b) j =
       record { tokens = (watched r b (watched r a j).next).tokens ++ (watched r a j).tokens; next = (watched r b (watched r a j).next).next }
   watched r (a · b) j = then (watched r a j) (watched r b)
 
   -- a whole tree
-  unfoldable pub watchedWhole : Out
-  watchedWhole = cond (eqb (at e 0).kind LIST) (listed e (child (one rootKinds)) comma 0) (child root 0)
+  unfoldable pub watched_whole : Out
+  watched_whole = cond (eqb (at e 0).kind LIST) (listed e (child (one root_kinds)) comma 0) (child root 0)
 
 -- n levels of records, and whatever f says of those below
 unfoldable pub levels : Source → (ℕ → Out) → (ℕ → ℕ → Out) → ℕ → ℕ → ℕ → Out
@@ -85,38 +85,38 @@ abbrev pub passed : Source → ℕ → Out
 passed e j = of e j []
 
 -- a whole tree, where f says what a record of a kind writes
-unfoldable pub wholeBy : Source → (ℕ → ℕ → Out) → Out
-wholeBy e f = cond (eqb (at e 0).kind LIST) (listed e (placed e f (one rootKinds)) comma 0) (placed e f root 0)
+unfoldable pub whole_by : Source → (ℕ → ℕ → Out) → Out
+whole_by e f = cond (eqb (at e 0).kind LIST) (listed e (placed e f (one root_kinds)) comma 0) (placed e f root 0)
 
 twice : {A : Type 0} (b : Bool) (x y : A) → cond b (cond b x y) y ≡ cond b x y
 twice true x y = refl
 twice false x y = refl
 
-never-mind : {A : Type 0} (b : Bool) (x : A) → cond b x x ≡ x
-never-mind true x = refl
-never-mind false x = refl
+never_mind : {A : Type 0} (b : Bool) (x : A) → cond b x x ≡ x
+never_mind true x = refl
+never_mind false x = refl
 
 module _ (e : Source) where
-  left_passed : (cs : List Class) (j : ℕ) → leftOut e (passed e) cs j ≡ of e j []
-  unfolding leftOut inPlace
+  left_passed : (cs : List Class) (j : ℕ) → left_out e (passed e) cs j ≡ of e j []
+  unfolding left_out in_place
   left_passed [] j = refl
-  left_passed (c ∷ cs) j = never-mind (allowed c (at e j).kind) (of e j [])
+  left_passed (c ∷ cs) j = never_mind (allowed c (at e j).kind) (of e j [])
 
   -- where a kind may stand in the place, what is of that kind alone is passed over with it
-  kind-passed : (c : Class) (k : ℕ) (ts : List Token) (j : ℕ) → allowed c k ≡ true → cond (allowed c (at e j).kind) (ofKind e k j ts) (of e j []) ≡ ofKind e k j ts
-  kind-passed c k ts j a = by (eqb (at e j).kind k) refl
+  kind_passed : (c : Class) (k : ℕ) (ts : List Token) (j : ℕ) → allowed c k ≡ true → cond (allowed c (at e j).kind) (of_kind e k j ts) (of e j []) ≡ of_kind e k j ts
+  kind_passed c k ts j a = by (eqb (at e j).kind k) refl
     where
       by : (b : Bool) → eqb (at e j).kind k ≡ b → cond (allowed c (at e j).kind) (of e j (cond b ts [])) (of e j []) ≡ of e j (cond b ts [])
       by true q = rw (eqb-true (at e j).kind k q, a)
-      by false q = never-mind (allowed c (at e j).kind) (of e j [])
+      by false q = never_mind (allowed c (at e j).kind) (of e j [])
 
-  items-passed : (f : ℕ → ℕ → Out) (c : Class) (g : ℕ → Out) (sep : List Token) → items e (passed e) f c g sep ≡ listed e g sep
-  unfolding items inPlace listed allowed
-  items-passed f c g sep = fun_ext (λ j. twice (eqb (at e j).kind LIST) (rows g [] sep (at e j).kids (behind e j)) (of e j []))
+  items_passed : (f : ℕ → ℕ → Out) (c : Class) (g : ℕ → Out) (sep : List Token) → items e (passed e) f c g sep ≡ listed e g sep
+  unfolding items in_place listed allowed
+  items_passed f c g sep = fun_ext (λ j. twice (eqb (at e j).kind LIST) (rows g [] sep (at e j).kids (behind e j)) (of e j []))
 
-  behind-passed : (f : ℕ → ℕ → Out) (o : Out) → behindRun e (passed e) f o ≡ checked e o.tokens o.next
-  unfolding behindRun inPlace checked allowed
-  behind-passed f o = by (eqb (at e o.next).kind NONE) (eqb (at e o.next).kind TEXT) (ltb 0 (at e o.next).len)
+  behind_passed : (f : ℕ → ℕ → Out) (o : Out) → behind_run e (passed e) f o ≡ checked e o.tokens o.next
+  unfolding behind_run in_place checked allowed
+  behind_passed f o = by (eqb (at e o.next).kind NONE) (eqb (at e o.next).kind TEXT) (ltb 0 (at e o.next).len)
     where
       x : List Token
       x = sourced (part e (at e o.next))
@@ -127,49 +127,49 @@ module _ (e : Source) where
       by false false l = rw (append-nil o.tokens)
 
   module _ (f : ℕ → ℕ → Out) where
-    child-passed : (c : Class) → child e (passed e) f c ≡ placed e f c
-    unfolding child inPlace placed
-    child-passed c = fun_ext (λ j. twice (allowed c (at e j).kind) (f (at e j).kind j) (of e j []))
+    child_passed : (c : Class) → child e (passed e) f c ≡ placed e f c
+    unfolding child in_place placed
+    child_passed c = fun_ext (λ j. twice (allowed c (at e j).kind) (f (at e j).kind j) (of e j []))
 
-    pub watched-passed : (r : Record) (s : Shape) (j : ℕ) → watched e (passed e) f r s j ≡ means e f r s j
-    unfolding watched means inPlace allowed
-    watched-passed r nothing j = refl
-    watched-passed r token j = refl
-    watched-passed r ident j = refl
-    watched-passed r (word w) j = refl
-    watched-passed r (said s) j = refl
-    watched-passed r (line w) j = refl
-    watched-passed r (when bit a) j = ap (λ (o : Out). cond (flagged bit r) o (say [] j)) (watched-passed r a j)
-    watched-passed r (is n a) j = ap (λ (o : Out). cond (eqb r.flags n) o (say [] j)) (watched-passed r a j)
-    watched-passed r (slot c) j = ap (λ (p : ℕ → Out). p j) (child-passed c)
-    watched-passed r (each c) j =
-        ap (λ (p : ℕ → Out). rows p [] [] r.kids j) (fun_ext (λ k. kind-passed tokenPlace TOKEN (tokenOf e (at e k) ∷ []) k refl))
-    watched-passed r (commas c) j = ap (λ (p : ℕ → Out). p j) (items-passed f c (child e (passed e) f c) comma ∙ ap (λ (p : ℕ → Out). listed e p comma) (child-passed c))
-    watched-passed r (row c) j = ap (λ (p : ℕ → Out). p j) (items-passed f c (child e (passed e) f c) [] ∙ ap (λ (p : ℕ → Out). listed e p []) (child-passed c))
-    watched-passed r (lines c w) j =
+    pub watched_passed : (r : Record) (s : Shape) (j : ℕ) → watched e (passed e) f r s j ≡ means e f r s j
+    unfolding watched means in_place allowed
+    watched_passed r nothing j = refl
+    watched_passed r token j = refl
+    watched_passed r ident j = refl
+    watched_passed r (word w) j = refl
+    watched_passed r (said s) j = refl
+    watched_passed r (line w) j = refl
+    watched_passed r (when bit a) j = ap (λ (o : Out). cond (flagged bit r) o (say [] j)) (watched_passed r a j)
+    watched_passed r (is n a) j = ap (λ (o : Out). cond (eqb r.flags n) o (say [] j)) (watched_passed r a j)
+    watched_passed r (slot c) j = ap (λ (p : ℕ → Out). p j) (child_passed c)
+    watched_passed r (each c) j =
+        ap (λ (p : ℕ → Out). rows p [] [] r.kids j) (fun_ext (λ k. kind_passed token_place TOKEN (token_of e (at e k) ∷ []) k refl))
+    watched_passed r (commas c) j = ap (λ (p : ℕ → Out). p j) (items_passed f c (child e (passed e) f c) comma ∙ ap (λ (p : ℕ → Out). listed e p comma) (child_passed c))
+    watched_passed r (row c) j = ap (λ (p : ℕ → Out). p j) (items_passed f c (child e (passed e) f c) [] ∙ ap (λ (p : ℕ → Out). listed e p []) (child_passed c))
+    watched_passed r (lines c w) j =
         ap (λ (p : ℕ → Out). p j)
-        (items-passed f c (λ k. then (child e (passed e) f c k) (say (valued w newline ∷ []))) []
-        ∙ ap (λ (p : ℕ → Out). listed e (λ k. then (p k) (say (valued w newline ∷ []))) []) (child-passed c))
-    watched-passed r (tuples c) j =
+        (items_passed f c (λ k. then (child e (passed e) f c k) (say (valued w newline ∷ []))) []
+        ∙ ap (λ (p : ℕ → Out). listed e (λ k. then (p k) (say (valued w newline ∷ []))) []) (child_passed c))
+    watched_passed r (tuples c) j =
         ap (λ (p : ℕ → Out). p j)
-        (items-passed f (list c) (bracketed (items e (passed e) f c (child e (passed e) f c) comma)) comma
-        ∙ ap (λ (p : ℕ → Out). listed e (bracketed p) comma) (items-passed f c (child e (passed e) f c) comma ∙ ap (λ (p : ℕ → Out). listed e p comma) (child-passed c)))
-    watched-passed r (given a) j = ap₂ (cond (eqb (at e j).kind NONE)) (left_passed (slots_of a) j) (watched-passed r a j)
-    watched-passed r (filled a) j = ap₂ (cond (eqb (at e j).kids 0)) (left_passed (slots_of a) j) (watched-passed r a j)
-    watched-passed r (replacing a b) j = ap₂ (cond (eqb (at e j).kind REPLACE)) (watched-passed r a j) (watched-passed r b j)
-    watched-passed r decimal j = kind-passed (maybe number) NUMBER _ j refl
-    watched-passed r brackets j = kind-passed small NUMBER _ j refl
-    watched-passed r quoted j = kind-passed text TEXT _ j refl
-    watched-passed r rowid j = kind-passed (ruled withoutRowid) TEXT _ j refl
-    watched-passed r source j =
-        behind-passed f (child e (passed e) f run j) ∙ ap (λ (p : ℕ → Out). checked e (p j).tokens (p j).next) (child-passed run)
-    watched-passed r (both a b) j = ap₂ (joined e.edition) (watched-passed r a j) (fun_ext (watched-passed r b))
-    watched-passed r (later a b) j =
+        (items_passed f (list c) (bracketed (items e (passed e) f c (child e (passed e) f c) comma)) comma
+        ∙ ap (λ (p : ℕ → Out). listed e (bracketed p) comma) (items_passed f c (child e (passed e) f c) comma ∙ ap (λ (p : ℕ → Out). listed e p comma) (child_passed c)))
+    watched_passed r (given a) j = ap₂ (cond (eqb (at e j).kind NONE)) (left_passed (slots_of a) j) (watched_passed r a j)
+    watched_passed r (filled a) j = ap₂ (cond (eqb (at e j).kids 0)) (left_passed (slots_of a) j) (watched_passed r a j)
+    watched_passed r (replacing a b) j = ap₂ (cond (eqb (at e j).kind REPLACE)) (watched_passed r a j) (watched_passed r b j)
+    watched_passed r decimal j = kind_passed (maybe number) NUMBER _ j refl
+    watched_passed r brackets j = kind_passed small NUMBER _ j refl
+    watched_passed r quoted j = kind_passed text TEXT _ j refl
+    watched_passed r rowid j = kind_passed (ruled without_rowid) TEXT _ j refl
+    watched_passed r source j =
+        behind_passed f (child e (passed e) f run j) ∙ ap (λ (p : ℕ → Out). checked e (p j).tokens (p j).next) (child_passed run)
+    watched_passed r (both a b) j = ap₂ (joined e.edition) (watched_passed r a j) (fun_ext (watched_passed r b))
+    watched_passed r (later a b) j =
         ap₂ (λ (o : Out) (p : ℕ → Out). record { tokens = (p o.next).tokens ++ o.tokens; next = (p o.next).next })
-        (watched-passed r a j) (fun_ext (watched-passed r b))
-    watched-passed r (a · b) j = ap₂ then (watched-passed r a j) (fun_ext (watched-passed r b))
+        (watched_passed r a j) (fun_ext (watched_passed r b))
+    watched_passed r (a · b) j = ap₂ then (watched_passed r a j) (fun_ext (watched_passed r b))
 
-    pub whole-passed : watchedWhole e (passed e) f ≡ wholeBy e f
-    unfolding watchedWhole wholeBy
-    whole-passed =
-        ap₂ (λ (p q : ℕ → Out). cond (eqb (at e 0).kind LIST) (listed e p comma 0) (q 0)) (child-passed (one rootKinds)) (child-passed root)
+    pub whole_passed : watched_whole e (passed e) f ≡ whole_by e f
+    unfolding watched_whole whole_by
+    whole_passed =
+        ap₂ (λ (p q : ℕ → Out). cond (eqb (at e 0).kind LIST) (listed e p comma 0) (q 0)) (child_passed (one root_kinds)) (child_passed root)

@@ -19,12 +19,12 @@ number_of token = token % 0x8000
 unfoldable pub present : ℕ → Bool
 present token = leb 0x8000 token
 
-unfoldable pub tokenOf : ℕ → List ℕ → Token
-tokenOf token value = record { kind = number_of token; value = given (present token) value }
+unfoldable pub token_of : ℕ → List ℕ → Token
+token_of token value = record { kind = number_of token; value = given (present token) value }
 
 -- the bytes that the token adds behind the record
 unfoldable pub news : Stream → ℕ → List ℕ → List ℕ
-news rec token value = adds rec.spaced (tokenOf token value)
+news rec token value = adds rec.spaced (token_of token value)
 
 abbrev pub longest : ℕ
 longest = 65536
@@ -51,41 +51,41 @@ before e rec size token value =
 unfoldable pub room : Stream → ℕ → ℕ → Answer
 room rec size n = first ((ltb (size - rec.count) n, NoRoom n) ∷ []) (Added n)
 
-unfoldable pub answerTo : Encoding → Stream → List ℕ → ℕ → List ℕ → Answer
-answerTo e rec out token value =
+unfoldable pub answer_to : Encoding → Stream → List ℕ → ℕ → List ℕ → Answer
+answer_to e rec out token value =
     first (before e rec (length out) token value) (room rec (length out) (length (news rec token value)))
 
 -- the bit, the count, and where the bytes end: their newlines are more lines, and the column goes on through them. A refusal leaves the record as it was
-unfoldable pub recordAfter : Answer → Stream → ℕ → List ℕ → Stream
-recordAfter (Added n) rec token value =
+unfoldable pub record_after : Answer → Stream → ℕ → List ℕ → Stream
+record_after (Added n) rec token value =
     record {
-      spaced = leaves rec.spaced (tokenOf token value);
+      spaced = leaves rec.spaced (token_of token value);
       count = rec.count + n;
       line = rec.line + lines (news rec token value);
       column = column rec.column (news rec token value);
     }
-recordAfter Malformed rec token value = rec
-recordAfter Unknown rec token value = rec
-recordAfter TooLong rec token value = rec
-recordAfter (Broken e) rec token value = rec
-recordAfter (NoRoom n) rec token value = rec
+record_after Malformed rec token value = rec
+record_after Unknown rec token value = rec
+record_after TooLong rec token value = rec
+record_after (Broken e) rec token value = rec
+record_after (NoRoom n) rec token value = rec
 
 -- success writes exactly the bytes, at the count, and nothing beyond them; a refusal writes nothing
-unfoldable pub outputAfter : Answer → Stream → List ℕ → ℕ → List ℕ → List ℕ
-outputAfter (Added n) rec out token value = take rec.count out ++ news rec token value ++ drop (rec.count + n) out
-outputAfter Malformed rec out token value = out
-outputAfter Unknown rec out token value = out
-outputAfter TooLong rec out token value = out
-outputAfter (Broken e) rec out token value = out
-outputAfter (NoRoom n) rec out token value = out
+unfoldable pub output_after : Answer → Stream → List ℕ → ℕ → List ℕ → List ℕ
+output_after (Added n) rec out token value = take rec.count out ++ news rec token value ++ drop (rec.count + n) out
+output_after Malformed rec out token value = out
+output_after Unknown rec out token value = out
+output_after TooLong rec out token value = out
+output_after (Broken e) rec out token value = out
+output_after (NoRoom n) rec out token value = out
 
 -- what append does: from record, output, token word and value to answer, record and output
 pub record Appends (rec : Stream) (out : List ℕ) (token : ℕ) (value : List ℕ) (answer : Answer) (rec' : Stream) (out' : List ℕ) : Type 0 where
   pub encoding : Encoding
   pub encoded : Encoded value encoding
-  pub answers : answer ≡ answerTo encoding rec out token value
-  pub leave : rec' ≡ recordAfter answer rec token value
-  pub writes : out' ≡ outputAfter answer rec out token value
+  pub answers : answer ≡ answer_to encoding rec out token value
+  pub leave : rec' ≡ record_after answer rec token value
+  pub writes : out' ≡ output_after answer rec out token value
 
 -- section 3: the number and the place of each answer
 abbrev pub number : Answer → ℕ

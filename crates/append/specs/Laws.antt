@@ -9,25 +9,25 @@ use borrow.Author.Tests.{lt-ltb, le-ltb, ltb-true, ltb-false, eq-eqb, ne_eqb}
 use Rattle.utf8.specs.Rfc3629 as utf8
 use Rattle.utf8.specs.Rfc3629.{Text, none, Encoded}
 use Rattle.utf8.specs.Laws as utf8laws
-use Rattle.utf8.specs.Laws.{encoded-unique, place-within}
+use Rattle.utf8.specs.Laws.{encoded_unique, place_within}
 use Rattle.utf8.specs.Decided.{decided}
 use Rattle.utf8.specs.declared.Encoding.{Encoding}
 use Rattle.utf8.specs.declared.Encoding.TheVariants.{Valid}
 use Rattle.spelling.specs.Spelling.{known, spelling}
 use Rattle.laws.specs.Tests.{or_left, or_right}
-use Rattle.laws.specs.First.{first, within, first_some, first-none, all-passed}
+use Rattle.laws.specs.First.{first, within, first_some, first_none, all_passed}
 use Rattle.stream.specs.Stream.{added, adds, leaves}
 use Rattle.stream.specs.Sink.{State, most, pour, mark, step, given}
 use Rattle.stream.specs.Laws.{count_fits}
-use Rattle.stream.specs.Length.{longestToken, adds-length, given-size}
+use Rattle.stream.specs.Length.{longest_token, adds_length, given_size}
 use Rattle.append.specs.declared.Stream.{Stream}
 use Rattle.append.specs.declared.Answer.{Answer}
 use Rattle.append.specs.declared.Answer.TheVariants.{Added, Malformed, Unknown, TooLong, Broken, NoRoom}
 use Rattle.append.specs.declared.Check.{Check}
 use Rattle.append.specs.declared.Check.TheVariants.{Fine, Refused}
-use Rattle.append.specs.Ends.{token-lines, token-column, token-longer}
-use Rattle.append.specs.Append.{Appends, number_of, present, tokenOf, news, longest, broken, unsound, before, room, answerTo, recordAfter, outputAfter, number, place}
-use Rattle.append.specs.Steps.{Checks, Ample, roomTest, andRoom, Verdict, Writes, emitted, counted, moved_to, Ready}
+use Rattle.append.specs.Ends.{token_lines, token_column, token_longer}
+use Rattle.append.specs.Append.{Appends, number_of, present, token_of, news, longest, broken, unsound, before, room, answer_to, record_after, output_after, number, place}
+use Rattle.append.specs.Steps.{Checks, Ample, room_test, and_room, Verdict, Writes, emitted, counted, moved_to, Ready}
 
 -- no bytes are a text
 no_bytes : (v : List ℕ) → length v ≡ 0 → Text v
@@ -40,9 +40,9 @@ pub record Sound (rec : Stream) (size : ℕ) : Type 0 where
   pub line : rec.line ≤ rec.count
   pub column : rec.column ≤ rec.count
 
-pub is-sound : (rec : Stream) (size : ℕ) → unsound rec size ≡ false → Sound rec size
+pub is_sound : (rec : Stream) (size : ℕ) → unsound rec size ≡ false → Sound rec size
 unfolding unsound
-is-sound rec size e =
+is_sound rec size e =
     let rest = or_right (ltb size rec.count) (ltb rec.count rec.line || ltb rec.count rec.column) e in
     record {
       within = ltb-false size rec.count (or_left (ltb size rec.count) _ e);
@@ -50,9 +50,9 @@ is-sound rec size e =
       column = ltb-false rec.count rec.column (or_right (ltb rec.count rec.line) (ltb rec.count rec.column) rest);
     }
 
-pub sound-is : (rec : Stream) (size : ℕ) → Sound rec size → unsound rec size ≡ false
+pub sound_is : (rec : Stream) (size : ℕ) → Sound rec size → unsound rec size ≡ false
 unfolding unsound
-sound-is rec size s = rw (le-ltb size rec.count s.within, le-ltb rec.count rec.line s.line, le-ltb rec.count rec.column s.column)
+sound_is rec size s = rw (le-ltb size rec.count s.within, le-ltb rec.count rec.line s.line, le-ltb rec.count rec.column s.column)
 
 -- ---- the refusals 1, 4, 2: each return is the first condition that holds
 module _ (rec : Stream) (size token : ℕ) (value : List ℕ) where
@@ -100,13 +100,13 @@ unfolding emitted
 emits x b p at out value word token k ek ep e = rw (ek, ep) at e
 
 -- the word that is looked up
-pub word-is : (word : List ℕ) (token k : ℕ) → k ≡ number_of token → word ≡ spelling k → word ≡ spelling (number_of token)
-word-is word token k e w = rw e at w
+pub word_is : (word : List ℕ) (token k : ℕ) → k ≡ number_of token → word ≡ spelling k → word ≡ spelling (number_of token)
+word_is word token k e w = rw e at w
 
 -- ---- how many they are: a count never stops short of them
-pub news-counted : (b : Bool) (token : ℕ) (value : List ℕ) → length value < 2 ^ 63 → length (adds b (tokenOf token value)) ≤ most
-unfolding tokenOf
-news-counted b token value h = omega (arith, adds-length b (tokenOf token value), given-size (present token) value)
+pub news_counted : (b : Bool) (token : ℕ) (value : List ℕ) → length value < 2 ^ 63 → length (adds b (token_of token value)) ≤ most
+unfolding token_of
+news_counted b token value h = omega (arith, adds_length b (token_of token value), given_size (present token) value)
 
 -- where nothing was before them
 pub counts : (x : State) (b : Bool) (token : ℕ) (word value : List ℕ) → x ≡ emitted b 0 [] token word value → x.0.at ≡ counted b token word value
@@ -114,35 +114,35 @@ unfolding counted
 counts x b token word value e = ap (λ (s : State). s.0.at) e
 
 pub measured : (b : Bool) (token : ℕ) (word value : List ℕ) (n : ℕ) → length value < 2 ^ 63 → word ≡ spelling (number_of token) → n ≡ counted b token word value
-    → n ≡ length (adds b (tokenOf token value))
-unfolding counted emitted step mark pour adds tokenOf
+    → n ≡ length (adds b (token_of token value))
+unfolding counted emitted step mark pour adds token_of
 measured b token word value n h w e =
     let k = number_of token in
     let m = length (added b k (spelling k) (given (present token) value)) in
-    let l : m ≤ most = news-counted b token value h in
+    let l : m ≤ most = news_counted b token value h in
     (rw w at e) ∙ count_fits 0 m (omega arith) ∙ zero-add m
 
 -- ---- no token adds more than a space and the longest spelling beside its value
-pub surely-fits : (rec : Stream) (token : ℕ) (value : List ℕ) (n : ℕ) → length value + longestToken ≤ n → length (news rec token value) ≤ n
-unfolding news tokenOf
-surely-fits rec token value n h = omega (arith, adds-length rec.spaced (tokenOf token value), given-size (present token) value)
+pub surely_fits : (rec : Stream) (token : ℕ) (value : List ℕ) (n : ℕ) → length value + longest_token ≤ n → length (news rec token value) ≤ n
+unfolding news token_of
+surely_fits rec token value n h = omega (arith, adds_length rec.spaced (token_of token value), given_size (present token) value)
 
 -- ---- 8, or not
-pub ample-room : (rec : Stream) (size token : ℕ) (value : List ℕ) → Ample rec size (length value) → Fine ≡ roomTest rec size (length (news rec token value))
-ample-room rec size token value a =
+pub ample_room : (rec : Stream) (size token : ℕ) (value : List ℕ) → Ample rec size (length value) → Fine ≡ room_test rec size (length (news rec token value))
+ample_room rec size token value a =
     let n = length (news rec token value) in
-    rw (le-ltb (size - rec.count) n (surely-fits rec token value (size - rec.count) a.fits))
+    rw (le-ltb (size - rec.count) n (surely_fits rec token value (size - rec.count) a.fits))
 
 module _ (rec : Stream) (size token : ℕ) (value : List ℕ) (n : ℕ) (e : n ≡ length (news rec token value)) where
-  pub full : size - rec.count < n → Refused (NoRoom n) ≡ roomTest rec size (length (news rec token value))
+  pub full : size - rec.count < n → Refused (NoRoom n) ≡ room_test rec size (length (news rec token value))
   full h = rw (← e, lt-ltb (size - rec.count) n h)
 
-  pub not_full : n ≤ size - rec.count → Fine ≡ roomTest rec size (length (news rec token value))
+  pub not_full : n ≤ size - rec.count → Fine ≡ room_test rec size (length (news rec token value))
   not_full h = rw (← e, le-ltb (size - rec.count) n h)
 
 no_room : (rec : Stream) (out : List ℕ) (token : ℕ) (value : List ℕ) (n : ℕ) → n ≡ length (news rec token value) → length out - rec.count < n
     → Writes rec out token value (NoRoom n) rec out
-unfolding room recordAfter outputAfter
+unfolding room record_after output_after
 no_room rec out token value n e h =
     record { answers = rw (← e, lt-ltb (length out - rec.count) n h); leave = refl; writes = refl }
 
@@ -150,93 +150,93 @@ no_room rec out token value n e h =
 module _ (rec : Stream) (out : List ℕ) (token : ℕ) (word value : List ℕ) (x : State) (ready : Ready rec out token word value) (held : length out ≤ most)
     (emits : x ≡ emitted rec.spaced rec.count out token word value) where
   sound : Sound rec (length out)
-  sound = is-sound rec (length out) ready.sound
+  sound = is_sound rec (length out) ready.sound
 
-  put-state : x ≡ emitted rec.spaced rec.count out token (spelling (number_of token)) value
-  put-state = rw ready.spells at emits
+  put_state : x ≡ emitted rec.spaced rec.count out token (spelling (number_of token)) value
+  put_state = rw ready.spells at emits
 
-  pub put-counts : x.0.at ≡ rec.count + length (news rec token value)
-  unfolding emitted step mark pour news adds tokenOf
-  put-counts =
+  pub put_counts : x.0.at ≡ rec.count + length (news rec token value)
+  unfolding emitted step mark pour news adds token_of
+  put_counts =
       let fits = ready.fits in
       let within = sound.within in
-      ap (λ (s : State). s.0.at) put-state ∙ count_fits rec.count (length (news rec token value)) (omega arith)
+      ap (λ (s : State). s.0.at) put_state ∙ count_fits rec.count (length (news rec token value)) (omega arith)
 
   -- what is asked of the record before it is moved on
-  pub put-moves : (rec.count ≤ x.0.at) × ((rec.line ≤ rec.count) × ((rec.column ≤ rec.count) × (length value ≤ x.0.at - rec.count)))
+  pub put_moves : (rec.count ≤ x.0.at) × ((rec.line ≤ rec.count) × ((rec.column ≤ rec.count) × (length value ≤ x.0.at - rec.count)))
   unfolding news
-  put-moves = (omega (arith, put-counts), (sound.line, (sound.column, omega (arith, put-counts, token-longer rec.spaced token value ready.lent))))
+  put_moves = (omega (arith, put_counts), (sound.line, (sound.column, omega (arith, put_counts, token_longer rec.spaced token value ready.lent))))
 
-  left_is : moved_to rec x.0 value ≡ recordAfter (Added (length (news rec token value))) rec token value
-  unfolding moved_to recordAfter emitted step mark pour news adds leaves tokenOf
+  left_is : moved_to rec x.0 value ≡ record_after (Added (length (news rec token value))) rec token value
+  unfolding moved_to record_after emitted step mark pour news adds leaves token_of
   left_is =
       let n = length (news rec token value) in
-      let d : x.0.at - rec.count ≡ n = omega (arith, put-counts) in
+      let d : x.0.at - rec.count ≡ n = omega (arith, put_counts) in
       rw (
         d,
-        put-counts,
-        ap (λ (s : State). s.0.spaced) put-state,
-        token-lines rec.spaced token value ready.lent,
-        token-column rec.spaced token value ready.lent rec.column,
+        put_counts,
+        ap (λ (s : State). s.0.spaced) put_state,
+        token_lines rec.spaced token value ready.lent,
+        token_column rec.spaced token value ready.lent rec.column,
       )
 
   pub put_all : (left : Stream) → left ≡ moved_to rec x.0 value → Writes rec out token value (Added (x.0.at - rec.count)) left x.1
-  unfolding room outputAfter emitted step mark pour news adds tokenOf
+  unfolding room output_after emitted step mark pour news adds token_of
   put_all left e =
       let new = news rec token value in
-      let n : x.0.at - rec.count ≡ length new = omega (arith, put-counts) in
+      let n : x.0.at - rec.count ≡ length new = omega (arith, put_counts) in
       let fits = ready.fits in
       let within = sound.within in
       record {
         answers = rw (n, le-ltb (length out - rec.count) (length new) fits);
         leave = rw n (e ∙ left_is);
-        writes = rw n (ap (λ (s : State). s.1) put-state ∙ sets-eq new out rec.count (omega arith));
+        writes = rw n (ap (λ (s : State). s.1) put_state ∙ sets-eq new out rec.count (omega arith));
       }
 
 -- ---- the first fitting refusal, and where there is none
-same-refusal : (a b : Answer) → Refused a ≡ Refused b → a ≡ b
-same-refusal a b e = cc
+same_refusal : (a b : Answer) → Refused a ≡ Refused b → a ≡ b
+same_refusal a b e = cc
 
-not-fine : (a : Answer) → Refused a ≡ Fine → ⊥
-not-fine a e = let z : ◌≡◌ {A = ℕ} 0 1 = cc in omega arith
+not_fine : (a : Answer) → Refused a ≡ Fine → ⊥
+not_fine a e = let z : ◌≡◌ {A = ℕ} 0 1 = cc in omega arith
 
 -- a refusal leaves all as it was
 Kept : Stream → List ℕ → ℕ → List ℕ → Answer → Type 0
-Kept rec out token value a = (rec ≡ recordAfter a rec token value) × (out ≡ outputAfter a rec out token value)
+Kept rec out token value a = (rec ≡ record_after a rec token value) × (out ≡ output_after a rec out token value)
 
 data Each (P : Answer → Type 0) : List (Bool × Answer) → Type 0 where
   done : Each P []
   also : {c : Bool × Answer} {cs : List (Bool × Answer)} → P c.1 → Each P cs → Each P (c ∷ cs)
 
-of-first : (P : Answer → Type 0) (cs : List (Bool × Answer)) → Each P cs → (a : Answer) → Refused a ≡ first (within Refused cs) Fine → P a
-of-first P [] ps a e = absurd (not-fine a e)
-of-first P ((true, x) ∷ cs) (also p ps) a e = rw (same-refusal a x e) p
-of-first P ((false, x) ∷ cs) (also p ps) a e = of-first P cs ps a e
+of_first : (P : Answer → Type 0) (cs : List (Bool × Answer)) → Each P cs → (a : Answer) → Refused a ≡ first (within Refused cs) Fine → P a
+of_first P [] ps a e = absurd (not_fine a e)
+of_first P ((true, x) ∷ cs) (also p ps) a e = rw (same_refusal a x e) p
+of_first P ((false, x) ∷ cs) (also p ps) a e = of_first P cs ps a e
 
 keeps : (e : Encoding) (rec : Stream) (out : List ℕ) (token : ℕ) (value : List ℕ) → Each (Kept rec out token value) (before e rec (length out) token value)
-unfolding before Kept recordAfter outputAfter
+unfolding before Kept record_after output_after
 keeps e rec out token value = also (refl, refl) (also (refl, refl) (also (refl, refl) (also (refl, refl) (also (refl, refl) done))))
 
 pub refused : (rec : Stream) (out : List ℕ) (token : ℕ) (value : List ℕ) (r : Check) (a : Answer) → Checks rec (length out) token value r → r ≡ Refused a → Appends rec out token value a rec out
-unfolding Kept answerTo
+unfolding Kept answer_to
 refused rec out token value r a c e =
     let k = c.encoding in
     let cs = before k rec (length out) token value in
-    let f = of-first (Kept rec out token value) cs (keeps k rec out token value) a (sym e ∙ c.is) in
+    let f = of_first (Kept rec out token value) cs (keeps k rec out token value) a (sym e ∙ c.is) in
     record {
       encoding = k;
       encoded = c.encoded;
-      answers = first_some Refused Fine same-refusal not-fine cs a (room rec (length out) (length (news rec token value))) (sym e ∙ c.is);
+      answers = first_some Refused Fine same_refusal not_fine cs a (room rec (length out) (length (news rec token value))) (sym e ∙ c.is);
       leave = f.0;
       writes = f.1;
     }
 
 pub accepted : (rec : Stream) (out : List ℕ) (token : ℕ) (value : List ℕ) (r : Check) (a : Answer) (rec' : Stream) (out' : List ℕ)
     → Checks rec (length out) token value r → r ≡ Fine → Writes rec out token value a rec' out' → Appends rec out token value a rec' out'
-unfolding answerTo
+unfolding answer_to
 accepted rec out token value r a rec' out' c e w =
     let k = c.encoding in
-    let f = first-none Refused Fine same-refusal not-fine (before k rec (length out) token value) (room rec (length out) (length (news rec token value))) (sym e ∙ c.is) in
+    let f = first_none Refused Fine same_refusal not_fine (before k rec (length out) token value) (room rec (length out) (length (news rec token value))) (sym e ∙ c.is) in
     record { encoding = k; encoded = c.encoded; answers = w.answers ∙ sym f; leave = w.leave; writes = w.writes }
 
 -- none of them fits
@@ -244,23 +244,23 @@ passed : (rec : Stream) (size token : ℕ) (value : List ℕ) (r : Check) → Ch
     → (unsound rec size ≡ false) × (not (present token) && ltb 0 (length value) ≡ false)
 unfolding before
 passed rec size token value r c e =
-    let p = all-passed Refused Fine same-refusal not-fine (before c.encoding rec size token value) (sym e ∙ c.is) in
+    let p = all_passed Refused Fine same_refusal not_fine (before c.encoding rec size token value) (sym e ∙ c.is) in
     (p.0, p.1.1.0)
 
-pub room-known : (rec : Stream) (size token : ℕ) (value : List ℕ) (r : Check) → Checks rec size token value r → r ≡ Fine → rec.count ≤ size
-room-known rec size token value r c e = (is-sound rec size (passed rec size token value r c e).0).within
+pub room_known : (rec : Stream) (size token : ℕ) (value : List ℕ) (r : Check) → Checks rec size token value r → r ≡ Fine → rec.count ≤ size
+room_known rec size token value r c e = (is_sound rec size (passed rec size token value r c e).0).within
 
 -- ---- the first fitting one of all refusals
-pub early-refused : (rec : Stream) (size token : ℕ) (value : List ℕ) (r : Check) (a : Answer) → Checks rec size token value r → r ≡ Refused a → Verdict rec size token value (Refused a)
-early-refused rec size token value r a c e = record { early = Refused a; checks = rw e at c; is = refl }
+pub early_refused : (rec : Stream) (size token : ℕ) (value : List ℕ) (r : Check) (a : Answer) → Checks rec size token value r → r ≡ Refused a → Verdict rec size token value (Refused a)
+early_refused rec size token value r a c e = record { early = Refused a; checks = rw e at c; is = refl }
 
-pub then-room : (rec : Stream) (size token : ℕ) (value : List ℕ) (r s : Check) → Checks rec size token value r → r ≡ Fine
-    → s ≡ roomTest rec size (length (news rec token value)) → Verdict rec size token value s
-then-room rec size token value r s c e is = record { early = Fine; checks = rw e at c; is = is }
+pub then_room : (rec : Stream) (size token : ℕ) (value : List ℕ) (r s : Check) → Checks rec size token value r → r ≡ Fine
+    → s ≡ room_test rec size (length (news rec token value)) → Verdict rec size token value s
+then_room rec size token value r s c e is = record { early = Fine; checks = rw e at c; is = is }
 
 -- whether there is room, where none of the others fits
 tested : (rec : Stream) (out : List ℕ) (token : ℕ) (value : List ℕ) (r : Check) (a : Answer) → Checks rec (length out) token value Fine
-    → r ≡ roomTest rec (length out) (length (news rec token value)) → r ≡ Refused a → Appends rec out token value a rec out
+    → r ≡ room_test rec (length out) (length (news rec token value)) → r ≡ Refused a → Appends rec out token value a rec out
 tested rec out token value r a c is e = by (ltb (length out - rec.count) n) refl is
   where
     n : ℕ
@@ -268,32 +268,32 @@ tested rec out token value r a c is e = by (ltb (length out - rec.count) n) refl
 
     by : (b : Bool) → ltb (length out - rec.count) n ≡ b → r ≡ first ((b, Refused (NoRoom n)) ∷ []) Fine → Appends rec out token value a rec out
     by true t q =
-        rw (same-refusal a (NoRoom n) (sym e ∙ q))
+        rw (same_refusal a (NoRoom n) (sym e ∙ q))
         (accepted rec out token value Fine (NoRoom n) rec out c refl (no_room rec out token value n refl (ltb-true (length out - rec.count) n t)))
-    by false t q = absurd (not-fine a (sym e ∙ q))
+    by false t q = absurd (not_fine a (sym e ∙ q))
 
-pub all-refused : (rec : Stream) (out : List ℕ) (token : ℕ) (value : List ℕ) (r : Check) (a : Answer) → Verdict rec (length out) token value r → r ≡ Refused a
+pub all_refused : (rec : Stream) (out : List ℕ) (token : ℕ) (value : List ℕ) (r : Check) (a : Answer) → Verdict rec (length out) token value r → r ≡ Refused a
     → Appends rec out token value a rec out
-all-refused rec out token value r a v e = by v.early v.checks v.is
+all_refused rec out token value r a v e = by v.early v.checks v.is
   where
-    by : (d : Check) → Checks rec (length out) token value d → r ≡ andRoom d (roomTest rec (length out) (length (news rec token value))) → Appends rec out token value a rec out
+    by : (d : Check) → Checks rec (length out) token value d → r ≡ and_room d (room_test rec (length out) (length (news rec token value))) → Appends rec out token value a rec out
     by (Refused b) c is = refused rec out token value (Refused b) a c (sym is ∙ e)
     by Fine c is = tested rec out token value r a c is e
 
 -- none fits
-none-fits : (rec : Stream) (size token : ℕ) (value : List ℕ) (r : Check) → Verdict rec size token value r → r ≡ Fine
-    → Checks rec size token value Fine × (Fine ≡ roomTest rec size (length (news rec token value)))
-none-fits rec size token value r v e = by v.early v.checks v.is
+none_fits : (rec : Stream) (size token : ℕ) (value : List ℕ) (r : Check) → Verdict rec size token value r → r ≡ Fine
+    → Checks rec size token value Fine × (Fine ≡ room_test rec size (length (news rec token value)))
+none_fits rec size token value r v e = by v.early v.checks v.is
   where
-    by : (d : Check) → Checks rec size token value d → r ≡ andRoom d (roomTest rec size (length (news rec token value)))
-        → Checks rec size token value Fine × (Fine ≡ roomTest rec size (length (news rec token value)))
-    by (Refused b) c is = absurd (not-fine b (sym is ∙ e))
+    by : (d : Check) → Checks rec size token value d → r ≡ and_room d (room_test rec size (length (news rec token value)))
+        → Checks rec size token value Fine × (Fine ≡ room_test rec size (length (news rec token value)))
+    by (Refused b) c is = absurd (not_fine b (sym is ∙ e))
     by Fine c is = (c, sym e ∙ is)
 
-pub all-ready : (rec : Stream) (out : List ℕ) (token : ℕ) (word value : List ℕ) (r : Check) → word ≡ spelling (number_of token) → Verdict rec (length out) token value r → r ≡ Fine
+pub all_ready : (rec : Stream) (out : List ℕ) (token : ℕ) (word value : List ℕ) (r : Check) → word ≡ spelling (number_of token) → Verdict rec (length out) token value r → r ≡ Fine
     → Ready rec out token word value
-all-ready rec out token word value r w v e =
-    let f = none-fits rec (length out) token value r v e in
+all_ready rec out token word value r w v e =
+    let f = none_fits rec (length out) token value r v e in
     let p = passed rec (length out) token value Fine f.0 refl in
     record { sound = p.0; spells = w; lent = p.1; fits = by (ltb (length out - rec.count) n) refl f.1 }
   where
@@ -301,23 +301,23 @@ all-ready rec out token word value r w v e =
     n = length (news rec token value)
 
     by : (b : Bool) → ltb (length out - rec.count) n ≡ b → Fine ≡ first ((b, Refused (NoRoom n)) ∷ []) Fine → n ≤ length out - rec.count
-    by true t q = absurd (not-fine (NoRoom n) (sym q))
+    by true t q = absurd (not_fine (NoRoom n) (sym q))
     by false t q = ltb-false (length out - rec.count) n t
 
-pub all-accepted : (rec : Stream) (out : List ℕ) (token : ℕ) (value : List ℕ) (r : Check) (a : Answer) (rec' : Stream) (out' : List ℕ)
+pub all_accepted : (rec : Stream) (out : List ℕ) (token : ℕ) (value : List ℕ) (r : Check) (a : Answer) (rec' : Stream) (out' : List ℕ)
     → Verdict rec (length out) token value r → r ≡ Fine → Writes rec out token value a rec' out' → Appends rec out token value a rec' out'
-all-accepted rec out token value r a rec' out' v e w = accepted rec out token value Fine a rec' out' (none-fits rec (length out) token value r v e).0 refl w
+all_accepted rec out token value r a rec' out' v e w = accepted rec out token value Fine a rec' out' (none_fits rec (length out) token value r v e).0 refl w
 
 -- no two outcomes satisfy the contract
 pub unique : (rec : Stream) (out : List ℕ) (token : ℕ) (value : List ℕ) (a b : Answer) (r s : Stream) (o p : List ℕ)
     → Appends rec out token value a r o → Appends rec out token value b s p → (a ≡ b) × ((r ≡ s) × (o ≡ p))
 unique rec out token value a b r s o p x y =
-    let e : x.encoding ≡ y.encoding = encoded-unique value x.encoding y.encoding x.encoded y.encoded in
-    let q : a ≡ b = x.answers ∙ ap (λ (k : Encoding). answerTo k rec out token value) e ∙ sym y.answers in (
+    let e : x.encoding ≡ y.encoding = encoded_unique value x.encoding y.encoding x.encoded y.encoded in
+    let q : a ≡ b = x.answers ∙ ap (λ (k : Encoding). answer_to k rec out token value) e ∙ sym y.answers in (
       q,
       (
-        x.leave ∙ ap (λ (t : Answer). recordAfter t rec token value) q ∙ sym y.leave,
-        x.writes ∙ ap (λ (t : Answer). outputAfter t rec out token value) q ∙ sym y.writes,
+        x.leave ∙ ap (λ (t : Answer). record_after t rec token value) q ∙ sym y.leave,
+        x.writes ∙ ap (λ (t : Answer). output_after t rec out token value) q ∙ sym y.writes,
       ),
     )
 
@@ -338,23 +338,23 @@ either : (t : Bool) (x y : Answer) → Small x → Small y → Small (cond t x y
 either true x y p q = p
 either false x y p q = q
 
-answer-small : (e : Encoding) (rec : Stream) (out : List ℕ) (token : ℕ) (value : List ℕ) → Encoded value e → Small (answerTo e rec out token value)
-unfolding answerTo before room news tokenOf
-answer-small e rec out token value h =
+answer_small : (e : Encoding) (rec : Stream) (out : List ℕ) (token : ℕ) (value : List ℕ) → Encoded value e → Small (answer_to e rec out token value)
+unfolding answer_to before room news token_of
+answer_small e rec out token value h =
     either (unsound rec (length out)) _ _ (omega arith)
     (either (not (known (number_of token))) _ _ (omega arith)
     (either (not (present token) && ltb 0 (length value)) _ _ (omega arith) (by (ltb longest (length value)) refl)))
   where
     n : ℕ
-    n = length (adds rec.spaced (tokenOf token value))
+    n = length (adds rec.spaced (token_of token value))
 
     by : (t : Bool) → ltb longest (length value) ≡ t
         → Small (cond t TooLong (cond (broken e) (Broken e) (cond (ltb (length out - rec.count) n) (NoRoom n) (Added n))))
     by true q = omega arith
     by false q =
         let l : length value ≤ longest = ltb-false longest (length value) q in
-        let s : n < 2 ^ 32 = omega (arith, adds-length rec.spaced (tokenOf token value), given-size (present token) value) in
-        either (broken e) _ _ (omega (arith, place-within value e h)) (either (ltb (length out - rec.count) n) _ _ s s)
+        let s : n < 2 ^ 32 = omega (arith, adds_length rec.spaced (token_of token value), given_size (present token) value) in
+        either (broken e) _ _ (omega (arith, place_within value e h)) (either (ltb (length out - rec.count) n) _ _ s s)
 
-pub place-small : (rec : Stream) (out : List ℕ) (token : ℕ) (value : List ℕ) (a : Answer) (rec' : Stream) (out' : List ℕ) → Appends rec out token value a rec' out' → place a < 2 ^ 32
-place-small rec out token value a rec' out' x = rw x.answers (answer-small x.encoding rec out token value x.encoded)
+pub place_small : (rec : Stream) (out : List ℕ) (token : ℕ) (value : List ℕ) (a : Answer) (rec' : Stream) (out' : List ℕ) → Appends rec out token value a rec' out' → place a < 2 ^ 32
+place_small rec out token value a rec' out' x = rw x.answers (answer_small x.encoding rec out token value x.encoded)

@@ -15,20 +15,20 @@ use Rattle.append.specs.declared.Stream.{Stream}
 use Rattle.append.specs.declared.Answer.{Answer}
 use Rattle.append.specs.declared.Answer.TheVariants.{Added, Malformed, Unknown, TooLong, Broken, NoRoom}
 use Rattle.position.specs.Position.{lines, column}
-use Rattle.position.specs.Laws.{lines-append, column-append, lines-length, column-length}
-use Rattle.append.specs.Laws.{is-sound, sound-is}
-use Rattle.append.specs.Append.{Appends, number_of, present, tokenOf, news, longest, broken, unsound, before, room, answerTo, recordAfter, outputAfter, number}
+use Rattle.position.specs.Laws.{lines_append, column_append, lines_length, column_length}
+use Rattle.append.specs.Laws.{is_sound, sound_is}
+use Rattle.append.specs.Append.{Appends, number_of, present, token_of, news, longest, broken, unsound, before, room, answer_to, record_after, output_after, number}
 
 -- a token word and value bytes, as they are lent
 abbrev pub Lent : Type 0
 Lent = ℕ × List ℕ
 
-abbrev pub tokensOf : List Lent → List Token
-tokensOf ls = map (λ l. tokenOf l.0 l.1) ls
+abbrev pub tokens_of : List Lent → List Token
+tokens_of ls = map (λ l. token_of l.0 l.1) ls
 
 -- the text of tokens from the record's bit on
-abbrev pub textFrom : Stream → List Lent → List ℕ
-textFrom rec ls = text rec.spaced (tokensOf ls)
+abbrev pub text_from : Stream → List Lent → List ℕ
+text_from rec ls = text rec.spaced (tokens_of ls)
 
 -- appends one after another, all of which succeed: from record and output to record and output
 pub data AppendsAll : Stream → List ℕ → List Lent → Stream → List ℕ → Type 0 where
@@ -60,9 +60,9 @@ pub record Succeeds (rec : Stream) (out : List ℕ) (t : Token) (rec' : Stream) 
   pub writes : out' ≡ take rec.count out ++ adds rec.spaced t ++ drop rec'.count out
 
 -- no number is 0 but that of success
-passed : (e : Encoding) (rec : Stream) (out : List ℕ) (token : ℕ) (value : List ℕ) → number (answerTo e rec out token value) ≡ 0
-    → (rec.count + length (news rec token value) ≤ length out) × (answerTo e rec out token value ≡ Added (length (news rec token value))) × Held rec
-unfolding answerTo before room broken
+passed : (e : Encoding) (rec : Stream) (out : List ℕ) (token : ℕ) (value : List ℕ) → number (answer_to e rec out token value) ≡ 0
+    → (rec.count + length (news rec token value) ≤ length out) × (answer_to e rec out token value ≡ Added (length (news rec token value))) × Held rec
+unfolding answer_to before room broken
 passed e rec out token value =
     by (unsound rec (length out)) (not (known (number_of token))) (not (present token) && ltb 0 (length value)) (ltb longest (length value)) (eqb (utf8.number e) 0)
     (ltb (length out - rec.count) n) refl refl refl
@@ -82,17 +82,17 @@ passed e rec out token value =
     by false false false false false f p q r z = absurd (eqb-false (utf8.number e) 0 q z)
     by false false false false true true p q r z = absurd (omega arith)
     by false false false false true false p q r z =
-        let s = is-sound rec (length out) p in
+        let s = is_sound rec (length out) p in
         (omega (arith, s.within, ltb-false (length out - rec.count) n r), refl, record { line = s.line; column = s.column })
 
 -- an answer of number 0 is a success
-pub zero-added : {rec : Stream} {out : List ℕ} {token : ℕ} {value : List ℕ} {a : Answer} {rec' : Stream} {out' : List ℕ} → Appends rec out token value a rec' out'
+pub zero_added : {rec : Stream} {out : List ℕ} {token : ℕ} {value : List ℕ} {a : Answer} {rec' : Stream} {out' : List ℕ} → Appends rec out token value a rec' out'
     → number a ≡ 0 → a ≡ Added (length (news rec token value))
-zero-added {rec} {out} {token} {value} x z = x.answers ∙ (passed x.encoding rec out token value (ap number (sym x.answers) ∙ z)).1
+zero_added {rec} {out} {token} {value} x z = x.answers ∙ (passed x.encoding rec out token value (ap number (sym x.answers) ∙ z)).1
 
 pub succeeds : {rec : Stream} {out : List ℕ} {token : ℕ} {value : List ℕ} {n : ℕ} {rec' : Stream} {out' : List ℕ} → Appends rec out token value (Added n) rec' out'
-    → Succeeds rec out (tokenOf token value) rec' out'
-unfolding recordAfter outputAfter news
+    → Succeeds rec out (token_of token value) rec' out'
+unfolding record_after output_after news
 succeeds {rec} {out} {token} {value} {n} {rec'} x =
     let m = length (news rec token value) in
     let p = passed x.encoding rec out token value (ap number (sym x.answers)) in
@@ -113,44 +113,44 @@ abbrev put : List ℕ → List ℕ → ℕ → List ℕ
 put out a k = take k out ++ a ++ drop (k + length a) out
 
 module _ (out a : List ℕ) (k : ℕ) (fits : k + length a ≤ length out) where
-  head-length : length (take k out ++ a) ≡ k + length a
-  head-length = length-append (take k out) a ∙ ap (λ (n : ℕ). n + length a) (length-take-le k out (omega arith))
+  head_length : length (take k out ++ a) ≡ k + length a
+  head_length = length-append (take k out) a ∙ ap (λ (n : ℕ). n + length a) (length-take-le k out (omega arith))
 
-  put-take : take (k + length a) (put out a k) ≡ take k out ++ a
-  put-take = take_at (take k out ++ a) (drop (k + length a) out) (k + length a) head-length
+  put_take : take (k + length a) (put out a k) ≡ take k out ++ a
+  put_take = take_at (take k out ++ a) (drop (k + length a) out) (k + length a) head_length
 
-  put-drop : (m : ℕ) → drop (k + length a + m) (put out a k) ≡ drop (k + length a + m) out
-  put-drop m = rw (← head-length) (drop-append-add (take k out ++ a) (drop (length (take k out ++ a)) out) m ∙ drop-drop m (length (take k out ++ a)) out)
+  put_drop : (m : ℕ) → drop (k + length a + m) (put out a k) ≡ drop (k + length a + m) out
+  put_drop m = rw (← head_length) (drop-append-add (take k out ++ a) (drop (length (take k out ++ a)) out) m ∙ drop-drop m (length (take k out ++ a)) out)
 
-  put-length : length (put out a k) ≡ length out
-  put-length = omega (arith, length-append (take k out ++ a) (drop (k + length a) out), head-length, length-drop (k + length a) out)
+  put_length : length (put out a k) ≡ length out
+  put_length = omega (arith, length-append (take k out ++ a) (drop (k + length a) out), head_length, length-drop (k + length a) out)
 
   -- and then others behind them
   put_both : (b : List ℕ) → take (k + length a) (put out a k) ++ b ++ drop (k + length a + length b) (put out a k) ≡ take k out ++ (a ++ b) ++ drop (k + length a + length b) out
-  put_both b = rw (put-take, put-drop (length b), append_assoc (take k out) a b)
+  put_both b = rw (put_take, put_drop (length b), append_assoc (take k out) a b)
 
 -- ---- a list of appends
-pub output-length : {rec : Stream} {out : List ℕ} {t : Token} {rec' : Stream} {out' : List ℕ} → Succeeds rec out t rec' out' → length out' ≡ length out
-output-length {rec} {out} {t} s = rw (s.writes, s.count) (put-length out (adds rec.spaced t) rec.count (omega (arith, s.fits, s.count)))
+pub output_length : {rec : Stream} {out : List ℕ} {t : Token} {rec' : Stream} {out' : List ℕ} → Succeeds rec out t rec' out' → length out' ≡ length out
+output_length {rec} {out} {t} s = rw (s.writes, s.count) (put_length out (adds rec.spaced t) rec.count (omega (arith, s.fits, s.count)))
 
-pub appended : {rec : Stream} {out : List ℕ} {ls : List Lent} {rec' : Stream} {out' : List ℕ} → AppendsAll rec out ls rec' out' → Appended rec out (tokensOf ls) rec' out'
+pub appended : {rec : Stream} {out : List ℕ} {ls : List Lent} {rec' : Stream} {out' : List ℕ} → AppendsAll rec out ls rec' out' → Appended rec out (tokens_of ls) rec' out'
 unfolding text bit lines column
 appended {rec} {out} none = record { spaced = refl; count = sym (add-zero rec.count); line = sym (add-zero rec.line); column = refl; writes = rw append-nil (sym (take-append-drop rec.count out)) }
 appended {rec} {out} {rec' = rec'} (one {mid = mid} {o = o} {l = l} {ls = ls} x xs) =
     let s = succeeds x in
     let r = appended xs in
-    let t = tokenOf l.0 l.1 in
+    let t = token_of l.0 l.1 in
     let a = adds rec.spaced t in
-    let b = text (leaves rec.spaced t) (tokensOf ls) in
+    let b = text (leaves rec.spaced t) (tokens_of ls) in
     let fits : rec.count + length a ≤ length out = omega (arith, s.fits, s.count) in
     let count : rec'.count ≡ rec.count + length a + length b = r.count ∙ rw (s.spaced, s.count) in
     let line : rec'.line ≡ rec.line + lines a + lines b = r.line ∙ rw (s.spaced, s.line) in
     let col : rec'.column ≡ column (column rec.column a) b = r.column ∙ rw (s.spaced, s.column) in
     record {
-      spaced = r.spaced ∙ ap (λ (c : Bool). bit c (tokensOf ls)) s.spaced;
+      spaced = r.spaced ∙ ap (λ (c : Bool). bit c (tokens_of ls)) s.spaced;
       count = omega (arith, count, length-append a b);
-      line = omega (arith, line, lines-append a b);
-      column = col ∙ sym (column-append rec.column a b);
+      line = omega (arith, line, lines_append a b);
+      column = col ∙ sym (column_append rec.column a b);
       writes = r.writes ∙ rw (count, s.spaced, s.writes, s.count) (put_both out a rec.count fits b);
     }
 
@@ -179,32 +179,32 @@ pub held_on : {rec : Stream} {out : List ℕ} {t : Token} {rec' : Stream} {out' 
 held_on {rec} {t = t} s =
     let n = adds rec.spaced t in
     record {
-      line = omega (arith, s.was.line, s.line, s.count, lines-length n);
-      column = omega (arith, s.was.column, s.column, s.count, column-length rec.column n);
+      line = omega (arith, s.was.line, s.line, s.count, lines_length n);
+      column = omega (arith, s.was.column, s.column, s.count, column_length rec.column n);
     }
 
 added : (rec : Stream) (out : List ℕ) (l : Lent) → Held rec → Fine l → rec.count + length (news rec l.0 l.1) ≤ length out
-    → let a = Added (length (news rec l.0 l.1)) in Appends rec out l.0 l.1 a (recordAfter a rec l.0 l.1) (outputAfter a rec out l.0 l.1)
-unfolding answerTo before room broken
+    → let a = Added (length (news rec l.0 l.1)) in Appends rec out l.0 l.1 a (record_after a rec l.0 l.1) (output_after a rec out l.0 l.1)
+unfolding answer_to before room broken
 added rec out l h f fits =
     let n = length (news rec l.0 l.1) in
     record {
       encoding = Valid;
       encoded = f.valid;
-      answers = rw (sound-is rec (length out) (record { within = omega arith; line = h.line; column = h.column }), f.spelled, no_stray (present l.0) (length l.1) f.lent, le-ltb longest (length l.1) f.short, le-ltb (length out - rec.count) n (omega arith));
+      answers = rw (sound_is rec (length out) (record { within = omega arith; line = h.line; column = h.column }), f.spelled, no_stray (present l.0) (length l.1) f.lent, le-ltb longest (length l.1) f.short, le-ltb (length out - rec.count) n (omega arith));
       leave = refl;
       writes = refl;
     }
 
 -- and room for the whole text: all of them succeed
-pub all-succeed : (rec : Stream) (out : List ℕ) {ls : List Lent} → Held rec → AllFine ls → rec.count + length (textFrom rec ls) ≤ length out
+pub all_succeed : (rec : Stream) (out : List ℕ) {ls : List Lent} → Held rec → AllFine ls → rec.count + length (text_from rec ls) ≤ length out
     → (rec' : Stream) × (out' : List ℕ) × AppendsAll rec out ls rec' out'
-unfolding text news recordAfter
-all-succeed rec out h none fits = (rec, out, none)
-all-succeed rec out h (one {l = l} {ls = ls} f fs) fits =
-    let t = tokenOf l.0 l.1 in
-    let room = length-append (adds rec.spaced t) (text (leaves rec.spaced t) (tokensOf ls)) in
+unfolding text news record_after
+all_succeed rec out h none fits = (rec, out, none)
+all_succeed rec out h (one {l = l} {ls = ls} f fs) fits =
+    let t = token_of l.0 l.1 in
+    let room = length-append (adds rec.spaced t) (text (leaves rec.spaced t) (tokens_of ls)) in
     let x = added rec out l h f (omega arith) in
     let a = Added (length (adds rec.spaced t)) in
-    let rest = all-succeed (recordAfter a rec l.0 l.1) (outputAfter a rec out l.0 l.1) (held_on (succeeds x)) fs (omega (arith, output-length (succeeds x))) in
+    let rest = all_succeed (record_after a rec l.0 l.1) (output_after a rec out l.0 l.1) (held_on (succeeds x)) fs (omega (arith, output_length (succeeds x))) in
     (rest.0, rest.1, one x rest.2)

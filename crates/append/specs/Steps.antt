@@ -8,12 +8,12 @@ use Rattle.append.specs.declared.Answer.{Answer}
 use Rattle.append.specs.declared.Answer.TheVariants.{NoRoom}
 use Rattle.append.specs.declared.Check.{Check}
 use Rattle.append.specs.declared.Check.TheVariants.{Fine, Refused}
-use Rattle.stream.specs.Length.{longestToken}
+use Rattle.stream.specs.Length.{longest_token}
 use Rattle.stream.specs.Sink.{State, step, given}
 use Rattle.position.specs.Position.{lines, column}
 use Rattle.spelling.specs.Spelling.{spelling}
 use Rattle.stream.specs.declared.Sink.{Sink}
-use Rattle.append.specs.Append.{unsound, before, room, news, number_of, present, recordAfter, outputAfter}
+use Rattle.append.specs.Append.{unsound, before, room, news, number_of, present, record_after, output_after}
 
 -- the first of the refusals 1, 4, 2 that fits
 pub record Checks (rec : Stream) (size token : ℕ) (value : List ℕ) (r : Check) : Type 0 where
@@ -24,27 +24,27 @@ pub record Checks (rec : Stream) (size token : ℕ) (value : List ℕ) (r : Chec
 -- a value of so many bytes, a space and the longest spelling have room
 pub record Ample (rec : Stream) (size len : ℕ) : Type 0 where
   pub within : rec.count ≤ size
-  pub fits : len + longestToken ≤ size - rec.count
+  pub fits : len + longest_token ≤ size - rec.count
 
 -- 8, for a token of n bytes
-abbrev pub roomTest : Stream → ℕ → ℕ → Check
-roomTest rec size n = first ((ltb (size - rec.count) n, Refused (NoRoom n)) ∷ []) Fine
+abbrev pub room_test : Stream → ℕ → ℕ → Check
+room_test rec size n = first ((ltb (size - rec.count) n, Refused (NoRoom n)) ∷ []) Fine
 
 -- 1, 4, 2 and then 8
-abbrev pub andRoom : Check → Check → Check
-andRoom (Refused a) c = Refused a
-andRoom Fine c = c
+abbrev pub and_room : Check → Check → Check
+and_room (Refused a) c = Refused a
+and_room Fine c = c
 
 pub record Verdict (rec : Stream) (size token : ℕ) (value : List ℕ) (r : Check) : Type 0 where
   pub early : Check
   pub checks : Checks rec size token value early
-  pub is : r ≡ andRoom early (roomTest rec size (length (news rec token value)))
+  pub is : r ≡ and_room early (room_test rec size (length (news rec token value)))
 
 -- 8, or the bytes
 pub record Writes (rec : Stream) (out : List ℕ) (token : ℕ) (value : List ℕ) (answer : Answer) (rec' : Stream) (out' : List ℕ) : Type 0 where
   pub answers : answer ≡ room rec (length out) (length (news rec token value))
-  pub leave : rec' ≡ recordAfter answer rec token value
-  pub writes : out' ≡ outputAfter answer rec out token value
+  pub leave : rec' ≡ record_after answer rec token value
+  pub writes : out' ≡ output_after answer rec out token value
 
 -- the token, whose kind is spelled as w, appended to an output from a count on, and the count that it leaves in none
 unfoldable pub emitted : Bool → ℕ → List ℕ → ℕ → List ℕ → List ℕ → State

@@ -4,7 +4,7 @@
 ghost use Rattle.std.specs.Prelude.{◌≡◌, ◌-◌, ◌≤◌, true, length};
 ghost use Rattle.spelling.specs.Spelling.{spelling};
 ghost use Rattle.append.specs.Append.{Appends, news, number_of, number as number', place as place', present as present', unsound as unsound'};
-ghost use Rattle.append.specs.Steps.{Checks, Ample, roomTest, Verdict, Writes, counted, moved_to, Ready};
+ghost use Rattle.append.specs.Steps.{Checks, Ample, room_test, Verdict, Writes, counted, moved_to, Ready};
 
 use stream::Sink;
 use utf8::Encoding;
@@ -44,7 +44,7 @@ pub enum Answer {
     Malformed,
     // No token has the number, or value bytes stand where none is present.
     Unknown,
-    // The value is over-long.
+    // The value is over_long.
     TooLong,
     // The value is not UTF-8.
     Broken(Encoding),
@@ -177,7 +177,7 @@ fn ample(rec: Stream, size: usize, len: usize) -> bool
 // 8, where there is no room for the token: its bytes are measured only where there may be none.
 fn no_room(rec: Stream, size: usize, token: u16, word: &[u8], value: &[u8]) -> Check
     requires { (rec.count ≤ size) × (word.now ≡ spelling (number_of token)) }
-    ensures { result ≡ roomTest rec size (length (news rec token value.now)) }
+    ensures { result ≡ room_test rec size (length (news rec token value.now)) }
 {
     if ample(rec, size, value.len()) {
         return Check::Fine;

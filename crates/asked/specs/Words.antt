@@ -5,5 +5,5 @@ use Rattle.laws.specs.First.{first}
 use Rattle.laws.specs.Text.{ascii}
 
 -- bit 0 is the switch and bit 1 the SQLite edition; any other word is the first name
-unfoldable pub optionOf : List ℕ → ℕ
-optionOf w = first ((same w (ascii "--strict"), 1) ∷ (same w (ascii "--sqlite"), 2) ∷ []) 0
+unfoldable pub option_of : List ℕ → ℕ
+option_of w = first ((same w (ascii "--strict"), 1) ∷ (same w (ascii "--sqlite"), 2) ∷ []) 0

@@ -1,7 +1,7 @@
 // What the words in front of the names of a program's files ask for: `--strict` and `--sqlite` (02, vii and viii).
 ghost use Rattle.std.specs.Prelude.{◌≡◌};
 ghost use Rattle.laws.specs.Bytes.{same as same'};
-ghost use Rattle.asked.specs.Words.{optionOf};
+ghost use Rattle.asked.specs.Words.{option_of};
 
 // The options as `mode` has them.
 const STRICT: u32 = 1;
@@ -36,7 +36,7 @@ fn same(a: &[u8], b: &[u8]) -> bool
 
 // The option that a word asks for; 0 is none.
 pub fn option(word: &[u8]) -> u32
-    ensures { result ≡ optionOf word.now }
+    ensures { result ≡ option_of word.now }
 {
     if same(word, b"--strict") {
         return STRICT;

@@ -5,5 +5,5 @@ use Rattle.laws.specs.Among.{among, all}
 unfoldable pub blank : ℕ → Bool
 blank b = among b (0x09 ∷ 0x0A ∷ 0x0C ∷ 0x0D ∷ 0x20 ∷ [])
 
-unfoldable pub allBlank : List ℕ → Bool
-allBlank v = all blank v
+unfoldable pub all_blank : List ℕ → Bool
+all_blank v = all blank v

@@ -1,6 +1,6 @@
 // The five ASCII blanks of 01, section 1. White space in section 4 is another test.
 ghost use Rattle.std.specs.Prelude.{◌≡◌};
-ghost use Rattle.blank.specs.Blank.{blank as blank', allBlank};
+ghost use Rattle.blank.specs.Blank.{blank as blank', all_blank as all_blank'};
 
 const TAB: u8 = 0x09;
 
@@ -21,7 +21,7 @@ pub fn blank(b: u8) -> bool
 
 // Whether all of a value's bytes are; the empty value counts. Of most values the first byte is past them all.
 pub fn all_blank(v: &[u8]) -> bool
-    ensures { result ≡ allBlank v.now }
+    ensures { result ≡ all_blank' v.now }
 {
     if 0 < v.len() {
         if SPACE < v[0] {

@@ -2,7 +2,7 @@
 ghost use Rattle.std.specs.Prelude.{[], ◌∷◌};
 ghost use Rattle.grammar.specs.Kind.{Pair};
 ghost use Rattle.grammar.specs.Shape.{slot};
-ghost use Rattle.grammar.specs.Grammar.{node, columnDefinition};
+ghost use Rattle.grammar.specs.Grammar.{node, column_definition as column_definition'};
 ghost use Rattle.pen.specs.Pen.{source, Below};
 
 use super::types::type_name;
@@ -20,7 +20,7 @@ pub fn column_definition(
     text: &[u8],
     left: usize,
 ) -> Pen
-    ensures { Below (source tree.now text.now) pool.now left (slot columnDefinition) (p, out.old) (result, out.new) }
+    ensures { Below (source tree.now text.now) pool.now left (slot column_definition') (p, out.old) (result, out.new) }
 {
     let r = record::read(tree, p.next);
     if (left == 0) | (r.kind != COLUMN_DEFINITION) {

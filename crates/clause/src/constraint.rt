@@ -1,7 +1,7 @@
 // Constraints of a table and of a domain.
 ghost use Rattle.std.specs.Prelude.{◌≡◌, [], ◌∷◌, ℕ};
 ghost use Rattle.record.specs.declared.Record.{Record as Record'};
-ghost use Rattle.spelling.specs.Token.{TK-CONSTRAINT};
+ghost use Rattle.spelling.specs.Token.{TK_CONSTRAINT as TK_CONSTRAINT'};
 ghost use Rattle.grammar.specs.Kind.{PrimaryKey, Unique, Check, ForeignKey, ForeignKeyClause, DomainConstraint, NamedTableConstraint};
 ghost use Rattle.grammar.specs.Shape.{slot};
 ghost use Rattle.grammar.specs.Grammar.{shape, from, text as text', node, clause};
@@ -146,7 +146,7 @@ pub fn named_table_constraint(
 
 // CONSTRAINT and a name, unless that is NONE.
 fn constraint_name(p: Pen, out: &mut [u8], pool: &[u8], tree: &[u8], text: &[u8]) -> Pen
-    ensures { Always (source tree.now text.now) pool.now (clause TK-CONSTRAINT text') (p, out.old) (result, out.new) }
+    ensures { Always (source tree.now text.now) pool.now (clause TK_CONSTRAINT' text') (p, out.old) (result, out.new) }
 {
     let r = record::read(tree, p.next);
     if r.kind == NONE {

@@ -3,7 +3,7 @@ ghost use Rattle.std.specs.Prelude.{[], ◌∷◌};
 ghost use Rattle.grammar.specs.Kind.{ColumnsAndConstraints, AsSelect};
 ghost use Rattle.grammar.specs.Shape.{slot};
 ghost use Rattle.grammar.specs.Grammar.{shape, node};
-ghost use Rattle.pen.specs.Pen.{source, sourceIn, Below};
+ghost use Rattle.pen.specs.Pen.{source, source_in, Below};
 
 use super::select::select;
 use super::table::columns_and_constraints;
@@ -31,7 +31,7 @@ pub fn create_table_body(
     left: usize,
     edition: Edition,
 ) -> Pen
-    ensures { Below (sourceIn tree.now text.now edition) pool.now left (slot (node (ColumnsAndConstraints ∷ AsSelect ∷ []))) (p, out.old) (result, out.new) }
+    ensures { Below (source_in tree.now text.now edition) pool.now left (slot (node (ColumnsAndConstraints ∷ AsSelect ∷ []))) (p, out.old) (result, out.new) }
 {
     let r = record::read(tree, p.next);
     if left == 0 {

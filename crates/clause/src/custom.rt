@@ -1,12 +1,12 @@
 // What a type is made of.
 ghost use Rattle.std.specs.Prelude.{false, [], ◌∷◌};
-ghost use Rattle.spelling.specs.Token.{TK-AS};
+ghost use Rattle.spelling.specs.Token.{TK_AS as TK_AS'};
 ghost use Rattle.grammar.specs.Kind.{Struct, Union, CustomType, TypeField, TypeParam, OperatorClause};
 ghost use Rattle.grammar.specs.Shape.{slot, word as word', said as said', commas, row, filled, ◌·◌};
 ghost use Rattle.grammar.specs.Grammar.{shape, node, parens};
-ghost use Rattle.pen.specs.Pen.{source, sourceIn, Below, WithText};
+ghost use Rattle.pen.specs.Pen.{source, source_in, Below, WithText};
 ghost use Rattle.parts.specs.Lists.{RowOf};
-ghost use Rattle.clause.specs.Later.{operatorsLater};
+ghost use Rattle.clause.specs.Later.{operators_later};
 
 use super::select::list_in_parens;
 use super::types::operator_clause;
@@ -26,7 +26,7 @@ fn type_fields(
     left: usize,
     value: &[u8],
 ) -> Pen
-    ensures { WithText value.now (λ v. Below (source tree.now text.now) pool.now left (word' TK-AS · said' v · parens (commas (node (TypeField ∷ [])))) (p, out.old) (result, out.new)) }
+    ensures { WithText value.now (λ v. Below (source tree.now text.now) pool.now left (word' TK_AS' · said' v · parens (commas (node (TypeField ∷ [])))) (p, out.old) (result, out.new)) }
 {
     let q = word(p, out, pool, TK_AS);
     let q = said(q, out, pool, value);
@@ -55,7 +55,7 @@ fn operator_row(
     n: u16,
     edition: Edition,
 ) -> Pen
-    ensures { RowOf (sourceIn tree.now text.now edition) pool.now left (node (OperatorClause ∷ [])) false n (p, out.old) (result, out.new) }
+    ensures { RowOf (source_in tree.now text.now edition) pool.now left (node (OperatorClause ∷ [])) false n (p, out.old) (result, out.new) }
 {
     let mut q = p;
     let mut rest = n;
@@ -76,7 +76,7 @@ fn operators(
     left: usize,
     edition: Edition,
 ) -> Pen
-    ensures { Below (sourceIn tree.now text.now edition) pool.now left (row (node (OperatorClause ∷ []))) (p, out.old) (result, out.new) }
+    ensures { Below (source_in tree.now text.now edition) pool.now left (row (node (OperatorClause ∷ []))) (p, out.old) (result, out.new) }
 {
     let r = record::read(tree, p.next);
     let q = pass(p, tree);
@@ -96,7 +96,7 @@ fn default_first(
     left: usize,
     edition: Edition,
 ) -> Pen
-    ensures { Below (sourceIn tree.now text.now edition) pool.now left (operatorsLater) (p, out.old) (result, out.new) }
+    ensures { Below (source_in tree.now text.now edition) pool.now left (operators_later) (p, out.old) (result, out.new) }
 {
     let mut nothing = [0u8; 0];
     let behind = operators(p, &mut nothing, pool, tree, text, left, edition);
@@ -141,7 +141,7 @@ fn custom_type(
     left: usize,
     edition: Edition,
 ) -> Pen
-    ensures { Below (sourceIn tree.now text.now edition) pool.now left (shape CustomType) (p, out.old) (result, out.new) }
+    ensures { Below (source_in tree.now text.now edition) pool.now left (shape CustomType) (p, out.old) (result, out.new) }
 {
     let q = params(p, out, pool, tree, text, left);
     let q = said(q, out, pool, b"BASE");
@@ -161,7 +161,7 @@ pub fn create_type_body(
     left: usize,
     edition: Edition,
 ) -> Pen
-    ensures { Below (sourceIn tree.now text.now edition) pool.now left (slot (node (Struct ∷ Union ∷ CustomType ∷ []))) (p, out.old) (result, out.new) }
+    ensures { Below (source_in tree.now text.now edition) pool.now left (slot (node (Struct ∷ Union ∷ CustomType ∷ []))) (p, out.old) (result, out.new) }
 {
     let r = record::read(tree, p.next);
     if left == 0 {

@@ -1,14 +1,14 @@
 // Select, one-select, from and table: each may hold the next, and a table a select again; the depth that is left falls. And the lists of clauses.
 ghost use Rattle.std.specs.Prelude.{◌≡◌, cond, [], ◌∷◌};
 ghost use Rattle.record.specs.declared.Record.{Record as Record'};
-ghost use Rattle.spelling.specs.Token.{TK-FROM};
+ghost use Rattle.spelling.specs.Token.{TK_FROM as TK_FROM'};
 ghost use Rattle.grammar.specs.Kind.{SelectBody, CompoundSelect, OneSelect, Values, JoinedTable, Table, TableCall, TableSelect, Sub, CommonTableExpr};
 ghost use Rattle.grammar.specs.Shape.{slot, commas as commas', row as row'};
-ghost use Rattle.grammar.specs.Grammar.{shape, node, parens, clause as clause', select as select', oneSelect, fromClause, selectTable, with};
+ghost use Rattle.grammar.specs.Grammar.{shape, node, parens, clause as clause', select as select', one_select as one_select', from_clause as from_clause', select_table, with};
 ghost use Rattle.pen.specs.Pen.{source, Writes, Always, Below, IfFlags};
 ghost use Rattle.parts.specs.Lists.{RowOf};
 ghost use Rattle.clause.specs.Held.{held};
-ghost use Rattle.clause.specs.Parts.{filters as filters', cteBody, isMaterialized, isNotMaterialized};
+ghost use Rattle.clause.specs.Parts.{filters as filters', cte_body as cte_body', is_materialized, is_not_materialized};
 
 use super::column::{column_definition, pair};
 use super::constraint::{domain_constraint, named_table_constraint};
@@ -78,7 +78,7 @@ pub fn compound(p: Pen, out: &mut [u8], pool: &[u8], tree: &[u8], text: &[u8], l
 // OneSelect (83 and 84).
 #[cycle(body_compound_cte_cte_body_element_elements_from_clause_from_given_joined_list_one_one_select_select_sub_table_table_select_with_clause)]
 pub fn one_select(p: Pen, out: &mut [u8], pool: &[u8], tree: &[u8], text: &[u8], left: usize) -> Pen
-    ensures { Below (source tree.now text.now) pool.now left (slot oneSelect) (p, out.old) (result, out.new) }
+    ensures { Below (source tree.now text.now) pool.now left (slot one_select') (p, out.old) (result, out.new) }
 {
     let r = record::read(tree, p.next);
     if left == 0 {
@@ -130,7 +130,7 @@ fn values(p: Pen, out: &mut [u8], pool: &[u8], tree: &[u8], text: &[u8]) -> Pen
 // FROM and a from clause, unless that is NONE.
 #[cycle(body_compound_cte_cte_body_element_elements_from_clause_from_given_joined_list_one_one_select_select_sub_table_table_select_with_clause)]
 pub fn from_given(p: Pen, out: &mut [u8], pool: &[u8], tree: &[u8], text: &[u8], left: usize) -> Pen
-    ensures { Below (source tree.now text.now) pool.now left (clause' TK-FROM fromClause) (p, out.old) (result, out.new) }
+    ensures { Below (source tree.now text.now) pool.now left (clause' TK_FROM' from_clause') (p, out.old) (result, out.new) }
 {
     let r = record::read(tree, p.next);
     if r.kind == NONE {
@@ -150,7 +150,7 @@ pub fn from_clause(
     text: &[u8],
     left: usize,
 ) -> Pen
-    ensures { Below (source tree.now text.now) pool.now left (slot fromClause) (p, out.old) (result, out.new) }
+    ensures { Below (source tree.now text.now) pool.now left (slot from_clause') (p, out.old) (result, out.new) }
 {
     let r = record::read(tree, p.next);
     if (left == 0) | (r.kind != FROM_CLAUSE) {
@@ -179,7 +179,7 @@ pub fn joined(p: Pen, out: &mut [u8], pool: &[u8], tree: &[u8], text: &[u8], lef
 // SelectTable (87 to 90).
 #[cycle(body_compound_cte_cte_body_element_elements_from_clause_from_given_joined_list_one_one_select_select_sub_table_table_select_with_clause)]
 pub fn table(p: Pen, out: &mut [u8], pool: &[u8], tree: &[u8], text: &[u8], left: usize) -> Pen
-    ensures { Below (source tree.now text.now) pool.now left (slot selectTable) (p, out.old) (result, out.new) }
+    ensures { Below (source tree.now text.now) pool.now left (slot select_table) (p, out.old) (result, out.new) }
 {
     let r = record::read(tree, p.next);
     if left == 0 {
@@ -280,7 +280,7 @@ pub fn cte(p: Pen, out: &mut [u8], pool: &[u8], tree: &[u8], text: &[u8], left: 
 
 // MATERIALIZED where the flags say so.
 fn materialized(p: Pen, out: &mut [u8], pool: &[u8], flags: u16) -> Pen
-    ensures { IfFlags flags isMaterialized pool.now (p, out.old) (result, out.new) }
+    ensures { IfFlags flags is_materialized pool.now (p, out.old) (result, out.new) }
 {
     if flags == MATERIALIZED {
         return word(p, out, pool, TK_MATERIALIZED);
@@ -290,7 +290,7 @@ fn materialized(p: Pen, out: &mut [u8], pool: &[u8], flags: u16) -> Pen
 
 // NOT MATERIALIZED where the flags say so.
 fn not_materialized(p: Pen, out: &mut [u8], pool: &[u8], flags: u16) -> Pen
-    ensures { IfFlags flags isNotMaterialized pool.now (p, out.old) (result, out.new) }
+    ensures { IfFlags flags is_not_materialized pool.now (p, out.old) (result, out.new) }
 {
     if flags == NOT_MATERIALIZED {
         let q = word(p, out, pool, TK_NOT);
@@ -310,7 +310,7 @@ fn cte_body(
     left: usize,
     flags: u16,
 ) -> Pen
-    ensures { (r : Record') → flags ≡ r.flags → Writes (source tree.now text.now) pool.now left r cteBody (p, out.old) (result, out.new) }
+    ensures { (r : Record') → flags ≡ r.flags → Writes (source tree.now text.now) pool.now left r cte_body' (p, out.old) (result, out.new) }
 {
     let q = materialized(p, out, pool, flags);
     let q = not_materialized(q, out, pool, flags);

@@ -1,10 +1,10 @@
 // What a table is made of, and what changes in it.
 ghost use Rattle.std.specs.Prelude.{[], ◌∷◌};
-ghost use Rattle.spelling.specs.Token.{TK-COMMA};
+ghost use Rattle.spelling.specs.Token.{TK_COMMA as TK_COMMA'};
 ghost use Rattle.grammar.specs.Kind.{RenameTo, AddColumn, AlterColumn, RenameColumn, DropColumn, ColumnsAndConstraints, NamedTableConstraint};
 ghost use Rattle.grammar.specs.Shape.{slot, word as word', commas, filled, ◌·◌};
 ghost use Rattle.grammar.specs.Grammar.{shape, from, node};
-ghost use Rattle.pen.specs.Pen.{source, sourceIn, Always, Below};
+ghost use Rattle.pen.specs.Pen.{source, source_in, Always, Below};
 
 use super::column::column_definition;
 use super::select::list;
@@ -105,7 +105,7 @@ pub fn alter_table_body(
 
 // A comma and the constraints, unless there are none.
 fn constraints(p: Pen, out: &mut [u8], pool: &[u8], tree: &[u8], text: &[u8], left: usize) -> Pen
-    ensures { Below (source tree.now text.now) pool.now left (filled (word' TK-COMMA · commas (node (NamedTableConstraint ∷ [])))) (p, out.old) (result, out.new) }
+    ensures { Below (source tree.now text.now) pool.now left (filled (word' TK_COMMA' · commas (node (NamedTableConstraint ∷ [])))) (p, out.old) (result, out.new) }
 {
     let r = record::read(tree, p.next);
     if r.kids == 0 {
@@ -125,7 +125,7 @@ pub fn columns_and_constraints(
     left: usize,
     edition: Edition,
 ) -> Pen
-    ensures { Below (sourceIn tree.now text.now edition) pool.now left (shape ColumnsAndConstraints) (p, out.old) (result, out.new) }
+    ensures { Below (source_in tree.now text.now edition) pool.now left (shape ColumnsAndConstraints) (p, out.old) (result, out.new) }
 {
     let q = word(p, out, pool, TK_LP);
     let q = list(q, out, pool, tree, text, left, COLUMN_DEFINITION, true);

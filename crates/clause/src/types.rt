@@ -2,8 +2,8 @@
 ghost use Rattle.std.specs.Prelude.{[], ◌∷◌};
 ghost use Rattle.grammar.specs.Kind.{TypeField, TypeParam, OperatorClause};
 ghost use Rattle.grammar.specs.Shape.{slot, given};
-ghost use Rattle.grammar.specs.Grammar.{run as run', node, maybe, parens, typeName};
-ghost use Rattle.pen.specs.Pen.{source, sourceIn, Always, Below};
+ghost use Rattle.grammar.specs.Grammar.{run as run', node, maybe, parens, type_name as type_name'};
+ghost use Rattle.pen.specs.Pen.{source, source_in, Always, Below};
 
 use corners::{dimensions, quoted};
 use grammar::kind::{NONE, OPERATOR_CLAUSE, TYPE_FIELD, TYPE_NAME, TYPE_PARAM};
@@ -27,7 +27,7 @@ fn size(p: Pen, out: &mut [u8], pool: &[u8], tree: &[u8], text: &[u8]) -> Pen
 
 // Type (107).
 pub fn type_name(p: Pen, out: &mut [u8], pool: &[u8], tree: &[u8], text: &[u8], left: usize) -> Pen
-    ensures { Below (source tree.now text.now) pool.now left (slot typeName) (p, out.old) (result, out.new) }
+    ensures { Below (source tree.now text.now) pool.now left (slot type_name') (p, out.old) (result, out.new) }
 {
     let r = record::read(tree, p.next);
     if (left == 0) | (r.kind != TYPE_NAME) {
@@ -75,7 +75,7 @@ pub fn operator_clause(
     left: usize,
     edition: Edition,
 ) -> Pen
-    ensures { Below (sourceIn tree.now text.now edition) pool.now left (slot (node (OperatorClause ∷ []))) (p, out.old) (result, out.new) }
+    ensures { Below (source_in tree.now text.now edition) pool.now left (slot (node (OperatorClause ∷ []))) (p, out.old) (result, out.new) }
 {
     let r = record::read(tree, p.next);
     if (left == 0) | (r.kind != OPERATOR_CLAUSE) {

@@ -3,11 +3,11 @@ ghost use Rattle.std.specs.Prelude.{◌≡◌};
 ghost use Rattle.record.specs.declared.Record.{Record as Record'};
 ghost use Rattle.grammar.specs.Kind.{Cmd, Select};
 ghost use Rattle.grammar.specs.Shape.{one, slot};
-ghost use Rattle.grammar.specs.Grammar.{shape, from, node, rootKinds};
-ghost use Rattle.tokens.specs.Tokens.{tokensOf};
-ghost use Rattle.tokens.specs.Tokens.{inEdition};
-ghost use Rattle.pen.specs.Pen.{sourceIn, emit, Writes, Anywhere, Below, IfFlags};
-ghost use Rattle.cmd.specs.Root.{explaining, plan, planning, formatJson, planningJson, lateClauses, RootRow, Rooted};
+ghost use Rattle.grammar.specs.Grammar.{shape, from, node, root_kinds};
+ghost use Rattle.tokens.specs.Tokens.{tokens_of};
+ghost use Rattle.tokens.specs.Tokens.{in_edition};
+ghost use Rattle.pen.specs.Pen.{source_in, emit, Writes, Anywhere, Below, IfFlags};
+ghost use Rattle.cmd.specs.Root.{explaining, plan, planning, format_json as format_json', planning_json, late_clauses, RootRow, Rooted};
 
 use clause::column::{column_definition, pair};
 use clause::constraint::{
@@ -76,7 +76,7 @@ fn explain_query_plan(p: Pen, out: &mut [u8], pool: &[u8], flags: u16) -> Pen
 
 // FORMAT = JSON.
 fn format_json(p: Pen, out: &mut [u8], pool: &[u8]) -> Pen
-    ensures { Anywhere pool.now formatJson (p, out.old) (result, out.new) }
+    ensures { Anywhere pool.now format_json' (p, out.old) (result, out.new) }
 {
     let q = said(p, out, pool, b"FORMAT");
     let q = word(q, out, pool, TK_EQ);
@@ -85,7 +85,7 @@ fn format_json(p: Pen, out: &mut [u8], pool: &[u8]) -> Pen
 
 // The same with Json where the flags say so.
 fn explain_json(p: Pen, out: &mut [u8], pool: &[u8], flags: u16) -> Pen
-    ensures { IfFlags flags planningJson pool.now (p, out.old) (result, out.new) }
+    ensures { IfFlags flags planning_json pool.now (p, out.old) (result, out.new) }
 {
     if flags == JSON {
         let q = query_plan(p, out, pool);
@@ -105,7 +105,7 @@ fn cmd(
     flags: u16,
     edition: Edition,
 ) -> Pen
-    ensures { (r : Record') → flags ≡ r.flags → Writes (sourceIn tree.now text.now edition) pool.now left r (shape Cmd) (p, out.old) (result, out.new) }
+    ensures { (r : Record') → flags ≡ r.flags → Writes (source_in tree.now text.now edition) pool.now left r (shape Cmd) (p, out.old) (result, out.new) }
 {
     let q = explain(p, out, pool, flags);
     let q = explain_query_plan(q, out, pool, flags);
@@ -124,7 +124,7 @@ fn clause_to_as_select(
     left: usize,
     edition: Edition,
 ) -> Pen
-    ensures { Below (sourceIn tree.now text.now edition) pool.now left (slot (node (from Select 20))) (p, out.old) (result, out.new) }
+    ensures { Below (source_in tree.now text.now edition) pool.now left (slot (node (from Select 20))) (p, out.old) (result, out.new) }
 {
     let r = record::read(tree, p.next);
     if r.kind < SELECT {
@@ -173,7 +173,7 @@ fn clause_to_named_table_constraint(
     left: usize,
     edition: Edition,
 ) -> Pen
-    ensures { Below (sourceIn tree.now text.now edition) pool.now left (slot (node lateClauses)) (p, out.old) (result, out.new) }
+    ensures { Below (source_in tree.now text.now edition) pool.now left (slot (node late_clauses)) (p, out.old) (result, out.new) }
 {
     let r = record::read(tree, p.next);
     if r.kind < COLUMN_DEFINITION {
@@ -231,7 +231,7 @@ fn root_element(
     left: usize,
     edition: Edition,
 ) -> Pen
-    ensures { Below (sourceIn tree.now text.now edition) pool.now left (slot (one rootKinds)) (p, out.old) (result, out.new) }
+    ensures { Below (source_in tree.now text.now edition) pool.now left (slot (one root_kinds)) (p, out.old) (result, out.new) }
 {
     let r = record::read(tree, p.next);
     if r.kind < SELECT {
@@ -254,7 +254,7 @@ fn root_elements(
     n: u16,
     edition: Edition,
 ) -> Pen
-    ensures { RootRow (inEdition tree.now text.now edition) pool.now left n (p, out.old) (result, out.new) }
+    ensures { RootRow (in_edition tree.now text.now edition) pool.now left n (p, out.old) (result, out.new) }
 {
     let mut q = p;
     let mut rest = n;
@@ -270,7 +270,7 @@ fn root_elements(
 
 // The root: Cmd, a LIST with commas, a RUN, a statement or a clause.
 fn root(p: Pen, out: &mut [u8], pool: &[u8], tree: &[u8], text: &[u8], edition: Edition) -> Pen
-    ensures { Rooted (inEdition tree.now text.now edition) pool.now 64 (p, out.old) (result, out.new) }
+    ensures { Rooted (in_edition tree.now text.now edition) pool.now 64 (p, out.old) (result, out.new) }
 {
     let r = record::read(tree, p.next);
     let q = pass(p, tree);
@@ -292,7 +292,7 @@ pub fn to_tokens(
     text: &[u8],
     edition: Edition,
 ) -> Sink
-    ensures { (result, out.new) ≡ emit pool.now (s, out.old) (tokensOf (inEdition tree.now text.now edition)) }
+    ensures { (result, out.new) ≡ emit pool.now (s, out.old) (tokens_of (in_edition tree.now text.now edition)) }
 {
     let p = Pen { sink: s, next: 0 };
     let q = root(p, out, pool, tree, text, edition);

@@ -5,11 +5,11 @@ ghost use Rattle.tokens.specs.Tokens.{anything};
 ghost use Rattle.decimal.specs.Decimal.{decimal};
 ghost use Rattle.grammar.specs.Shape.{decimal as decimal', brackets, quoted as quoted', rowid as rowid', source as source', slot, both};
 ghost use Rattle.grammar.specs.Grammar.{text as text', maybe};
-ghost use Rattle.spelling.specs.Token.{TK-STRING};
+ghost use Rattle.spelling.specs.Token.{TK_STRING as TK_STRING'};
 ghost use Rattle.stream.specs.Stream.{some};
 ghost use Rattle.stream.specs.Sink.{between, step};
 ghost use Rattle.tokens.specs.Corners.{id, inner, without, dashes as dashes', pairs as pairs', sourced as sourced'};
-ghost use Rattle.pen.specs.Pen.{source, sourceIn, Says, Always};
+ghost use Rattle.pen.specs.Pen.{source, source_in, Says, Always};
 ghost use Rattle.corners.specs.Laws.{Textless};
 
 use grammar::kind::{NUMBER, TEXT};
@@ -23,7 +23,7 @@ use stream::Sink;
 // The most dimensions of an array.
 const MOST_DIMENSIONS: u32 = 255;
 
-// How many parts the without-rowid text has where it is written.
+// How many parts the without_rowid_lem text has where it is written.
 const TWO_PARTS: usize = 2;
 
 // The byte that a `--` has twice.
@@ -83,7 +83,7 @@ pub fn dimensions(p: Pen, out: &mut [u8], pool: &[u8], tree: &[u8]) -> Pen
 
 // TK_STRING, whose fixed spelling is word, with a value between quotes: as it is, or its quotes doubled.
 fn in_edition(s: Sink, out: &mut [u8], word: &[u8], value: &[u8], edition: Edition) -> Sink
-    ensures { (result, out.new) ≡ step (s, out.old) TK-STRING word.now (some (between (inner edition value.now))) }
+    ensures { (result, out.new) ≡ step (s, out.old) TK_STRING' word.now (some (between (inner edition value.now))) }
 {
     if mode::sqlite(edition) {
         return stream::doubled(s, out, word, value);
@@ -100,7 +100,7 @@ pub fn quoted(
     text: &[u8],
     edition: Edition,
 ) -> Pen
-    ensures { Always (sourceIn tree.now text.now edition) pool.now quoted' (p, out.old) (result, out.new) }
+    ensures { Always (source_in tree.now text.now edition) pool.now quoted' (p, out.old) (result, out.new) }
 {
     let r = record::read(tree, p.next);
     let q = pass(p, tree);
@@ -115,7 +115,7 @@ pub fn quoted(
     }
 }
 
-// The next record, the without-rowid TEXT: if it has two parts, WITHOUT and the second, whatever the first is.
+// The next record, the without_rowid_lem TEXT: if it has two parts, WITHOUT and the second, whatever the first is.
 fn rowid(p: Pen, out: &mut [u8], pool: &[u8], tree: &[u8], text: &[u8]) -> Pen
     ensures { Always (source tree.now text.now) pool.now rowid' (p, out.old) (result, out.new) }
 {
@@ -134,7 +134,7 @@ fn rowid(p: Pen, out: &mut [u8], pool: &[u8], tree: &[u8], text: &[u8]) -> Pen
     append(q, out, pool, TK_ID, true, second)
 }
 
-// Whether the without-rowid record is written.
+// Whether the without_rowid_lem record is written.
 fn rowid_written(r: Record, text: &[u8]) -> bool
     ensures { result ≡ anything (cond (eqb r.kind TEXT') (without (take r.len (drop r.start text.now))) []) }
 {
@@ -155,7 +155,7 @@ pub fn options(
     text: &[u8],
     edition: Edition,
 ) -> Pen
-    ensures { Always (sourceIn tree.now text.now edition) pool.now (both rowid' (slot (maybe text'))) (p, out.old) (result, out.new) }
+    ensures { Always (source_in tree.now text.now edition) pool.now (both rowid' (slot (maybe text'))) (p, out.old) (result, out.new) }
 {
     let r = record::read(tree, p.next);
     let q = rowid(p, out, pool, tree, text);

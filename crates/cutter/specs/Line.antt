@@ -1,7 +1,7 @@
 -- 02, iii: "prints one lexeme a line as kind, start and length in decimal".
 use Rattle.std.specs.Prelude.{ℕ, ◌+◌, ◌≡◌, List, [], ◌∷◌, ◌++◌, eqb, length}
 use Rattle.std.proofs.lemmas.List.Edits.{sets}
-use Rattle.laws.specs.Among.{isNil}
+use Rattle.laws.specs.Among.{is_nil}
 use Rattle.laws.specs.First.{first}
 use Rattle.laws.specs.Text.{ascii}
 use Rattle.decimal.specs.Decimal.{natural}
@@ -24,7 +24,7 @@ name_of k =
 unfoldable pub line_of : ℕ → ℕ → ℕ → List ℕ
 line_of k start len =
     first
-    ((eqb k stop, ascii "stop" ++ (spaced start ++ ascii "\n")) ∷ (isNil (name_of k), []) ∷ [])
+    ((eqb k stop, ascii "stop" ++ (spaced start ++ ascii "\n")) ∷ (is_nil (name_of k), []) ∷ [])
     (name_of k ++ (spaced start ++ (spaced len ++ ascii "\n")))
 
 -- bytes stored in an output from a place on, as far as there is room, and the place behind them

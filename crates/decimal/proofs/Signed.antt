@@ -20,24 +20,24 @@ lower k =
     let e : suc k - 1 ≡ k = omega arith in
     rw (le-ltb (suc k) 1 (omega arith), e)
 
-pub not-below : (n : ℕ) → lt_z (pos n) (pos 0) ≡ true → ⊥
-not-below n h = let l = ltb-true n 0 h in omega arith
+pub not_below : (n : ℕ) → lt_z (pos n) (pos 0) ≡ true → ⊥
+not_below n h = let l = ltb-true n 0 h in omega arith
 
 minus : (z : ℤ) → lt_z z (pos 0) ≡ true → negsuc 0 -ℤ z ≡ pos (mag z)
-minus (pos n) h = absurd (not-below n h)
+minus (pos n) h = absurd (not_below n h)
 minus (negsuc k) h = lower k
 
 one_more : (z : ℤ) → lt_z z (pos 0) ≡ true → mag z + 1 ≡ magnitude z
-one_more (pos n) h = absurd (not-below n h)
+one_more (pos n) h = absurd (not_below n h)
 one_more (negsuc k) h = refl
 
 not_negative : (z : ℤ) → lt_z z (pos 0) ≡ false → z ≡ pos (magnitude z)
 not_negative (pos n) h = refl
 not_negative (negsuc k) h = absurd (false≢true (sym h))
 
-minus-below : (z : ℤ) → lt_z z (pos 0) ≡ true → 1 ≡ length (sign z)
-minus-below (pos n) h = absurd (not-below n h)
-minus-below (negsuc k) h = refl
+minus_below : (z : ℤ) → lt_z z (pos 0) ≡ true → 1 ≡ length (sign z)
+minus_below (pos n) h = absurd (not_below n h)
+minus_below (negsuc k) h = refl
 
 no_minus : (z : ℤ) → lt_z z (pos 0) ≡ false → 0 ≡ length (sign z)
 no_minus (pos n) h = refl
@@ -48,30 +48,30 @@ within (pos n) h = omega arith
 within (negsuc k) h = omega arith
 
 module _ (z : ℤ) (f : SFits w64 z) where
-  pub held-is : held z ≡ z
-  held-is = to_z-of_z w64 z f
+  pub held_is : held z ≡ z
+  held_is = to_z-of_z w64 z f
 
-  pub magnitude-within : magnitude z ≤ 2 ^ 63
-  magnitude-within = within z f.sfits
+  pub magnitude_within : magnitude z ≤ 2 ^ 63
+  magnitude_within = within z f.sfits
 
   module _ (h : lt_z (held z) (pos 0) ≡ true) where
     below : lt_z z (pos 0) ≡ true
-    below = rw held-is at h
+    below = rw held_is at h
 
-    pub minus-fits : SFits w64 (negsuc 0 -ℤ held z)
-    minus-fits = rw (held-is, minus z below) (record { sfits = f.sfits })
+    pub minus_fits : SFits w64 (negsuc 0 -ℤ held z)
+    minus_fits = rw (held_is, minus z below) (record { sfits = f.sfits })
 
     pub minus_is : held (negsuc 0 -ℤ held z) ≡ pos (mag z)
-    minus_is = to_z-of_z w64 (negsuc 0 -ℤ held z) minus-fits ∙ rw (held-is, minus z below)
+    minus_is = to_z-of_z w64 (negsuc 0 -ℤ held z) minus_fits ∙ rw (held_is, minus z below)
 
-    pub signs-below : 1 ≡ length (sign z)
-    signs-below = minus-below z below
+    pub signs_below : 1 ≡ length (sign z)
+    signs_below = minus_below z below
 
-    pub below-is : mag z + 1 ≡ magnitude z
-    below-is = one_more z below
+    pub below_is : mag z + 1 ≡ magnitude z
+    below_is = one_more z below
 
-  pub above-is : lt_z (held z) (pos 0) ≡ false → held z ≡ pos (magnitude z)
-  above-is h = held-is ∙ not_negative z (rw held-is at h)
+  pub above_is : lt_z (held z) (pos 0) ≡ false → held z ≡ pos (magnitude z)
+  above_is h = held_is ∙ not_negative z (rw held_is at h)
 
-  pub signs-above : lt_z (held z) (pos 0) ≡ false → 0 ≡ length (sign z)
-  signs-above h = no_minus z (rw held-is at h)
+  pub signs_above : lt_z (held z) (pos 0) ≡ false → 0 ≡ length (sign z)
+  signs_above h = no_minus z (rw held_is at h)

@@ -14,24 +14,24 @@ abbrev pub value : List ℕ → ℕ
 value [] = 0
 value (b ∷ bs) = (b - 0x30) * 10 ^ length bs + value bs
 
-abbrev pub isDigit : ℕ → Bool
-isDigit b = leb 0x30 b && leb b 0x39
+abbrev pub is_digit : ℕ → Bool
+is_digit b = leb 0x30 b && leb b 0x39
 
 -- below ten, and from ten on
-tens-some : (t : ℕ) (f : ℕ → List ℕ) → 0 < t → tens t f ≡ f t
-tens-some zero f h = absurd (not-suc-le-zero h)
-tens-some (suc t) f h = refl
+tens_some : (t : ℕ) (f : ℕ → List ℕ) → 0 < t → tens t f ≡ f t
+tens_some zero f h = absurd (not-suc-le-zero h)
+tens_some (suc t) f h = refl
 
-digits-one : (k n : ℕ) → n < 10 → digits (suc k) n ≡ digit n ∷ []
+digits_one : (k n : ℕ) → n < 10 → digits (suc k) n ≡ digit n ∷ []
 unfolding digits
-digits-one k n h =
+digits_one k n h =
     let q : n / 10 ≡ 0 = omega arith in
     let r : n % 10 ≡ n = omega arith in
     rw (q, r)
 
 digits_more : (k n : ℕ) → 10 ≤ n → digits (suc k) n ≡ digits k (n / 10) ++ digit (n % 10) ∷ []
 unfolding digits
-digits_more k n h = rw (tens-some (n / 10) (digits k) (omega arith))
+digits_more k n h = rw (tens_some (n / 10) (digits k) (omega arith))
 
 enough : (k j n : ℕ) → n < k → n < j → digits k n ≡ digits j n
 enough zero j n h l = absurd (not-suc-le-zero h)
@@ -39,72 +39,72 @@ enough (suc k) zero n h l = absurd (not-suc-le-zero l)
 enough (suc k) (suc j) n h l = by (ltb n 10) refl (λ b. enough k j (n / 10) (omega arith) (omega arith))
   where
     by : (b : Bool) → ltb n 10 ≡ b → (10 ≤ n → digits k (n / 10) ≡ digits j (n / 10)) → digits (suc k) n ≡ digits (suc j) n
-    by true e f = let s = ltb-true n 10 e in digits-one k n s ∙ sym (digits-one j n s)
+    by true e f = let s = ltb-true n 10 e in digits_one k n s ∙ sym (digits_one j n s)
     by false e f = let g = ltb-false n 10 e in rw (digits_more k n g, digits_more j n g, f g)
 
-pub natural-one : (n : ℕ) → n < 10 → natural n ≡ digit n ∷ []
+pub natural_one : (n : ℕ) → n < 10 → natural n ≡ digit n ∷ []
 unfolding natural
-natural-one n h = digits-one n n h
+natural_one n h = digits_one n n h
 
-pub natural-more : (n : ℕ) → 10 ≤ n → natural n ≡ natural (n / 10) ++ digit (n % 10) ∷ []
+pub natural_more : (n : ℕ) → 10 ≤ n → natural n ≡ natural (n / 10) ++ digit (n % 10) ∷ []
 unfolding natural
-natural-more n h = rw (digits_more n n h, enough n (suc (n / 10)) (n / 10) (omega arith) (omega arith))
+natural_more n h = rw (digits_more n n h, enough n (suc (n / 10)) (n / 10) (omega arith) (omega arith))
 
 -- what holds of a number below ten, and of one that has tens if it holds of them, holds of every number
-tens-below : (P : ℕ → Type 0) → ((n : ℕ) → n < 10 → P n) → ((n : ℕ) → 10 ≤ n → P (n / 10) → P n) → (k n : ℕ) → n < k → P n
-tens-below P one more zero n h = absurd (not-suc-le-zero h)
-tens-below P one more (suc k) n h = by (ltb n 10) refl (λ l. tens-below P one more k (n / 10) (omega arith))
+tens_below : (P : ℕ → Type 0) → ((n : ℕ) → n < 10 → P n) → ((n : ℕ) → 10 ≤ n → P (n / 10) → P n) → (k n : ℕ) → n < k → P n
+tens_below P one more zero n h = absurd (not-suc-le-zero h)
+tens_below P one more (suc k) n h = by (ltb n 10) refl (λ l. tens_below P one more k (n / 10) (omega arith))
   where
     by : (b : Bool) → ltb n 10 ≡ b → (10 ≤ n → P (n / 10)) → P n
     by true e f = one n (ltb-true n 10 e)
     by false e f = let g = ltb-false n 10 e in more n g (f g)
 
-pub by-tens : (P : ℕ → Type 0) → ((n : ℕ) → n < 10 → P n) → ((n : ℕ) → 10 ≤ n → P (n / 10) → P n) → (n : ℕ) → P n
-by-tens P one more n = tens-below P one more (suc n) n (omega arith)
+pub by_tens : (P : ℕ → Type 0) → ((n : ℕ) → n < 10 → P n) → ((n : ℕ) → 10 ≤ n → P (n / 10) → P n) → (n : ℕ) → P n
+by_tens P one more n = tens_below P one more (suc n) n (omega arith)
 
-pub length-one : (n : ℕ) → n < 10 → length (natural n) ≡ 1
-length-one n h = rw (natural-one n h)
+pub length_one : (n : ℕ) → n < 10 → length (natural n) ≡ 1
+length_one n h = rw (natural_one n h)
 
 pub length_more : (n : ℕ) → 10 ≤ n → length (natural n) ≡ length (natural (n / 10)) + 1
-length_more n h = rw (natural-more n h, length-append)
+length_more n h = rw (natural_more n h, length-append)
 
 pub length_some : (n : ℕ) → 0 < length (natural n)
-length_some = by-tens (λ n. 0 < length (natural n)) (λ n h. omega (arith, length-one n h)) (λ n h p. omega (arith, length_more n h))
+length_some = by_tens (λ n. 0 < length (natural n)) (λ n h. omega (arith, length_one n h)) (λ n h p. omega (arith, length_more n h))
 
-value-last : (bs : List ℕ) (d : ℕ) → value (bs ++ d ∷ []) ≡ value bs * 10 + (d - 0x30)
-value-last [] d = omega arith
-value-last (b ∷ bs) d =
-    let ih = value-last bs d in
+value_last : (bs : List ℕ) (d : ℕ) → value (bs ++ d ∷ []) ≡ value bs * 10 + (d - 0x30)
+value_last [] d = omega arith
+value_last (b ∷ bs) d =
+    let ih = value_last bs d in
     let l : length (bs ++ d ∷ []) ≡ suc (length bs) = omega (arith, length-append bs (d ∷ [])) in
     rw (l, pow-suc, ← mul_assoc) (omega arith)
 
-pub value-natural : (n : ℕ) → value (natural n) ≡ n
-value-natural = by-tens (λ n. value (natural n) ≡ n) (λ n h. rw (natural-one n h) (omega arith))
-    (λ n h p. rw (natural-more n h, value-last, p) (omega arith))
+pub value_natural : (n : ℕ) → value (natural n) ≡ n
+value_natural = by_tens (λ n. value (natural n) ≡ n) (λ n h. rw (natural_one n h) (omega arith))
+    (λ n h p. rw (natural_more n h, value_last, p) (omega arith))
 
-all-last : (bs : List ℕ) (d : ℕ) → all isDigit bs ≡ true → isDigit d ≡ true → all isDigit (bs ++ d ∷ []) ≡ true
-all-last [] d p q = rw q
-all-last (b ∷ bs) d p q = by (isDigit b) p (λ r. all-last bs d r q)
+all_last : (bs : List ℕ) (d : ℕ) → all is_digit bs ≡ true → is_digit d ≡ true → all is_digit (bs ++ d ∷ []) ≡ true
+all_last [] d p q = rw q
+all_last (b ∷ bs) d p q = by (is_digit b) p (λ r. all_last bs d r q)
   where
-    by : (t : Bool) → t && all isDigit bs ≡ true → (all isDigit bs ≡ true → all isDigit (bs ++ d ∷ []) ≡ true) → t && all isDigit (bs ++ d ∷ []) ≡ true
+    by : (t : Bool) → t && all is_digit bs ≡ true → (all is_digit bs ≡ true → all is_digit (bs ++ d ∷ []) ≡ true) → t && all is_digit (bs ++ d ∷ []) ≡ true
     by true p f = f p
     by false p f = p
 
-digit-is : (d : ℕ) → d < 10 → isDigit (digit d) ≡ true
-digit-is d h = rw (le-leb 0x30 (digit d) (omega arith), le-leb (digit d) 0x39 (omega arith))
+digit_is : (d : ℕ) → d < 10 → is_digit (digit d) ≡ true
+digit_is d h = rw (le-leb 0x30 (digit d) (omega arith), le-leb (digit d) 0x39 (omega arith))
 
-pub all_digits : (n : ℕ) → all isDigit (natural n) ≡ true
-all_digits = by-tens (λ n. all isDigit (natural n) ≡ true) (λ n h. rw (natural-one n h, digit-is n h))
-    (λ n h p. rw (natural-more n h) (all-last (natural (n / 10)) (digit (n % 10)) p (digit-is (n % 10) (omega arith))))
+pub all_digits : (n : ℕ) → all is_digit (natural n) ≡ true
+all_digits = by_tens (λ n. all is_digit (natural n) ≡ true) (λ n h. rw (natural_one n h, digit_is n h))
+    (λ n h p. rw (natural_more n h) (all_last (natural (n / 10)) (digit (n % 10)) p (digit_is (n % 10) (omega arith))))
 
 -- no zero in front: the one number whose text begins with the digit 0 is 0
-pub no-zero-in-front : (n : ℕ) → 0 < n → 0x30 < get_or (natural n) 0 0
-no-zero-in-front = by-tens (λ n. 0 < n → 0x30 < get_or (natural n) 0 0) (λ n h l. rw (natural-one n h) (omega arith))
-    (λ n h p l. rw (natural-more n h, get_or-append (natural (n / 10)) (digit (n % 10) ∷ []) 0 0 (length_some (n / 10))) (p (omega arith)))
+pub no_zero_in_front : (n : ℕ) → 0 < n → 0x30 < get_or (natural n) 0 0
+no_zero_in_front = by_tens (λ n. 0 < n → 0x30 < get_or (natural n) 0 0) (λ n h l. rw (natural_one n h) (omega arith))
+    (λ n h p l. rw (natural_more n h, get_or-append (natural (n / 10)) (digit (n % 10) ∷ []) 0 0 (length_some (n / 10))) (p (omega arith)))
 
 -- a number below 10 to the power k + 1 has at most k + 1 digits
-pub length-below : (n k : ℕ) → n < 10 ^ suc k → length (natural n) ≤ suc k
-length-below = by-tens (λ n. (k : ℕ) → n < 10 ^ suc k → length (natural n) ≤ suc k) (λ n h k l. omega (arith, length-one n h)) (λ n h p k l. by n h p k l)
+pub length_below : (n k : ℕ) → n < 10 ^ suc k → length (natural n) ≤ suc k
+length_below = by_tens (λ n. (k : ℕ) → n < 10 ^ suc k → length (natural n) ≤ suc k) (λ n h k l. omega (arith, length_one n h)) (λ n h p k l. by n h p k l)
   where
     by : (n : ℕ) → 10 ≤ n → ((k : ℕ) → n / 10 < 10 ^ suc k → length (natural (n / 10)) ≤ suc k) → (k : ℕ) → n < 10 ^ suc k → length (natural n) ≤ suc k
     by n h p zero l = omega arith
@@ -115,13 +115,13 @@ length-below = by-tens (λ n. (k : ℕ) → n < 10 ^ suc k → length (natural n
 
 -- a number is below 10 to the power of how many digits it has
 pub below_length : (n : ℕ) → n < 10 ^ length (natural n)
-below_length = by-tens (λ n. n < 10 ^ length (natural n)) (λ n h. rw (length-one n h) (omega arith))
+below_length = by_tens (λ n. n < 10 ^ length (natural n)) (λ n h. rw (length_one n h) (omega arith))
     (λ n h p. rw (length_more n h, add-one, pow-suc) (omega arith))
 
-pub length-decimal : (z : ℤ) → nat_abs z ≤ 2 ^ 63 → length (decimal z) ≤ 20
+pub length_decimal : (z : ℤ) → nat_abs z ≤ 2 ^ 63 → length (decimal z) ≤ 20
 unfolding decimal
-length-decimal (pos n) h = let l = length-below n 18 (omega arith) in omega arith
-length-decimal (negsuc n) h = let l = length-below (n + 1) 18 (omega arith) in omega arith
+length_decimal (pos n) h = let l = length_below n 18 (omega arith) in omega arith
+length_decimal (negsuc n) h = let l = length_below (n + 1) 18 (omega arith) in omega arith
 
 -- the contract leaves no choice
 pub unique : (z : ℤ) (a b : Decimal) → Spells z a → Spells z b → a ≡ b
@@ -130,11 +130,11 @@ unique z a b p q =
     ∙ ap (λ (k : ℕ). record { bytes = b.bytes; len = k }) (p.len ∙ sym q.len)
 
 -- and the bytes up to the length are the text
-pub spelled-part : (z : ℤ) (n : Decimal) → Spells z n → take n.len n.bytes ≡ decimal z
-spelled-part z n s = rw (s.len, s.bytes) (take-append_seam (decimal z) (replicate (20 - length (decimal z)) 0))
+pub spelled_part : (z : ℤ) (n : Decimal) → Spells z n → take n.len n.bytes ≡ decimal z
+spelled_part z n s = rw (s.len, s.bytes) (take-append_seam (decimal z) (replicate (20 - length (decimal z)) 0))
 
-pub spelled-fits : (z : ℤ) (n : Decimal) → Spells z n → n.len ≤ length n.bytes
-spelled-fits z n s = rw (s.len, s.bytes, length-append) (omega arith)
+pub spelled_fits : (z : ℤ) (n : Decimal) → Spells z n → n.len ≤ length n.bytes
+spelled_fits z n s = rw (s.len, s.bytes, length-append) (omega arith)
 
 -- examples
 zero_is : decimal (pos 0) ≡ ascii "0"
@@ -145,18 +145,18 @@ seven_is : decimal (pos 7) ≡ ascii "7"
 unfolding decimal natural digits
 seven_is = refl
 
-ten-is : decimal (pos 10) ≡ ascii "10"
+ten_is : decimal (pos 10) ≡ ascii "10"
 unfolding decimal natural digits
-ten-is = refl
+ten_is = refl
 
 minus_one_is : decimal (negsuc 0) ≡ ascii "-1"
 unfolding decimal natural digits
 minus_one_is = refl
 
-highest-is : decimal (pos 9223372036854775807) ≡ ascii "9223372036854775807"
+highest_is : decimal (pos 9223372036854775807) ≡ ascii "9223372036854775807"
 unfolding decimal natural digits
-highest-is = refl
+highest_is = refl
 
-lowest-is : decimal (negsuc 9223372036854775807) ≡ ascii "-9223372036854775808"
+lowest_is : decimal (negsuc 9223372036854775807) ≡ ascii "-9223372036854775808"
 unfolding decimal natural digits
-lowest-is = refl
+lowest_is = refl

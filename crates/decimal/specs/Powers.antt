@@ -36,14 +36,14 @@ power k = get_or powers k 0
 tenfold : ℕ → Bool
 tenfold k = eqb (power (suc k)) (power k * 10)
 
-all-tenfold : below tenfold (most - 1) ≡ true
+all_tenfold : below tenfold (most - 1) ≡ true
 unfolding power tenfold
-all-tenfold = refl
+all_tenfold = refl
 
-pub power-is : (k : ℕ) → k < most → power k ≡ 10 ^ k
+pub power_is : (k : ℕ) → k < most → power k ≡ 10 ^ k
 unfolding power tenfold
-power-is zero h = refl
-power-is (suc k) h =
-    let e = eqb-true (power (suc k)) (power k * 10) (at tenfold (most - 1) all-tenfold k (omega arith)) in
-    let p = power-is k (omega arith) in
+power_is zero h = refl
+power_is (suc k) h =
+    let e = eqb-true (power (suc k)) (power k * 10) (at tenfold (most - 1) all_tenfold k (omega arith)) in
+    let p = power_is k (omega arith) in
     e ∙ rw (p, pow-suc 10 k)

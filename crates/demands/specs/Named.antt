@@ -12,51 +12,51 @@ use Rattle.mode.specs.declared.Mode.{Mode}
 use Rattle.utf8.specs.Rfc3629 as utf8
 use Rattle.utf8.specs.Rfc3629.{Text, In, one}
 use Rattle.utf8.specs.Scan.{ones, counted, width}
-use Rattle.utf8.specs.Characters.{width-none}
-use Rattle.utf8.specs.Laws.{text-char, text-rest, text-first, number-text}
-use Rattle.blank.specs.Blank.{blank, allBlank}
+use Rattle.utf8.specs.Characters.{width_none}
+use Rattle.utf8.specs.Laws.{text_char, text_rest, text_first, number_text}
+use Rattle.blank.specs.Blank.{blank, all_blank}
 use Rattle.spelling.specs.Rows as spellings
 use Rattle.spelling.specs.Spelling.{row, spelling}
-use Rattle.spelling.specs.Token.{TK-ID}
-use Rattle.stream.specs.Stream.{tight, opens, gap, gapped, blob, spelledBit, written, valuedBit, added, left, adds, leaves, text}
-use Rattle.record.specs.Record.{bytes_at, recordAt, count}
+use Rattle.spelling.specs.Token.{TK_ID}
+use Rattle.stream.specs.Stream.{tight, opens, gap, gapped, blob, spelled_bit, written, valued_bit, added, left, adds, leaves, text}
+use Rattle.record.specs.Record.{bytes_at, record_at, count}
 use Rattle.grammar.specs.Kind.{TOKEN, RUN}
 use Rattle.grammar.specs.Grammar.{shape}
 use Rattle.grammar.specs.Slots.{allowed}
-use Rattle.tokens.specs.Tokens.{behind, tokenOf, rows, placed, means, node, whole, tokensOf, text_of}
+use Rattle.tokens.specs.Tokens.{behind, token_of, rows, placed, means, node, whole, tokens_of, text_of}
 use Rattle.tree.specs.Check as tree
-use Rattle.tree.specs.Check.{hasPart, malformed, answer_in, ChecksIn, number_of}
+use Rattle.tree.specs.Check.{has_part, malformed, answer_in, ChecksIn, number_of}
 use Rattle.tree.specs.Whole as whole
 use Rattle.tree.specs.declared.Answer.{Answer}
 use Rattle.tree.specs.declared.Answer.TheVariants.{Admitted, Malformed, Broken}
 use Rattle.admitted.specs.Named.{part_of, Agree, text_same}
 use Rattle.render.specs.declared.Outcome.{Outcome}
-use Rattle.render.specs.Render.{textIn, measured, rendered, outputAfter, MeasuresIn, RendersIn}
+use Rattle.render.specs.Render.{text_in, measured, rendered, output_after, MeasuresIn, RendersIn}
 use Rattle.kinyandoma.specs.Trees as Call
 
 module _ {m : Mode} {t x y : List ℕ} (agree : Agree t x y) (admits : ChecksIn m t x Admitted) (too : ChecksIn m t y Admitted) where
-  same : textIn m.edition t x ≡ textIn m.edition t y
+  same : text_in m.edition t x ≡ text_in m.edition t y
   same = text_same m.edition t x y agree
 
   answers : (a b : Answer) → ChecksIn m t x a → ChecksIn m t y b → a ≡ b
   answers a b p q = whole.unique m t x a Admitted p admits ∙ sym (whole.unique m t y b Admitted q too)
 
-  pub measured-alike : {o p : Outcome} → MeasuresIn m t x o → MeasuresIn m t y p → o ≡ p
-  measured-alike f g = f.answers ∙ ap₂ measured (answers f.answer g.answer f.checks g.checks) same ∙ sym g.answers
+  pub measured_alike : {o p : Outcome} → MeasuresIn m t x o → MeasuresIn m t y p → o ≡ p
+  measured_alike f g = f.answers ∙ ap₂ measured (answers f.answer g.answer f.checks g.checks) same ∙ sym g.answers
 
   -- the outcome, and every byte of the output
-  pub rendered-alike : {out out₁ out₂ : List ℕ} {o p : Outcome} → RendersIn m t x out o out₁ → RendersIn m t y out p out₂ → (o ≡ p) × (out₁ ≡ out₂)
-  rendered-alike {out} {o = o} {p} f g =
+  pub rendered_alike : {out out₁ out₂ : List ℕ} {o p : Outcome} → RendersIn m t x out o out₁ → RendersIn m t y out p out₂ → (o ≡ p) × (out₁ ≡ out₂)
+  rendered_alike {out} {o = o} {p} f g =
       let e : o ≡ p = f.answers ∙ ap₂ (λ (a : Answer) (v : List ℕ). rendered a (length out) v) (answers f.answer g.answer f.checks g.checks) same ∙ sym g.answers in
-      (e, f.writes ∙ ap₂ (λ (u : Outcome) (v : List ℕ). outputAfter u v out) e same ∙ sym g.writes)
+      (e, f.writes ∙ ap₂ (λ (u : Outcome) (v : List ℕ). output_after u v out) e same ∙ sym g.writes)
 
   -- and of the calls
-  pub measure-alike : {a b : ℕ} → Call.MeasuresIn m t x a → Call.MeasuresIn m t y b → a ≡ b
-  measure-alike f g = f.answers ∙ ap Call.code (measured-alike f.measures g.measures) ∙ sym g.answers
+  pub measure_alike : {a b : ℕ} → Call.MeasuresIn m t x a → Call.MeasuresIn m t y b → a ≡ b
+  measure_alike f g = f.answers ∙ ap Call.code (measured_alike f.measures g.measures) ∙ sym g.answers
 
-  pub render-alike : {out out₁ out₂ : List ℕ} {a b : ℕ} → Call.RendersIn m t x out a out₁ → Call.RendersIn m t y out b out₂ → (a ≡ b) × (out₁ ≡ out₂)
-  render-alike f g =
-      let u = rendered-alike f.renders g.renders in
+  pub render_alike : {out out₁ out₂ : List ℕ} {a b : ℕ} → Call.RendersIn m t x out a out₁ → Call.RendersIn m t y out b out₂ → (a ≡ b) × (out₁ ≡ out₂)
+  render_alike f g =
+      let u = rendered_alike f.renders g.renders in
       (f.answers ∙ ap Call.code u.0 ∙ sym g.answers, u.1)
 
 -- ---- that the premises are needed: a RUN of one TOKEN, whose value is the first byte of the text
@@ -64,19 +64,19 @@ abbrev rec : ℕ → ℕ → ℕ → ℕ → ℕ → List ℕ
 rec kind flags kids start len = 0x53 ∷ 0x4E ∷ little 2 kind ++ little 2 flags ++ little 2 kids ++ little 4 start ++ little 4 len
 
 abbrev one_token : List ℕ
-one_token = rec RUN 0 1 0 0 ++ rec TOKEN (0x8000 + TK-ID) 0 0 1
+one_token = rec RUN 0 1 0 0 ++ rec TOKEN (0x8000 + TK_ID) 0 0 1
 
 -- a byte that is named shows
-pub named-shows : (textIn Crate one_token (ascii "a") ≡ ascii "a") × (textIn Crate one_token (ascii "b") ≡ ascii "b")
-unfolding text_of tokensOf whole node means placed rows behind tokenOf allowed shape recordAt bytes_at text adds leaves added left gap gapped tight opens blob spelledBit written valuedBit allBlank blank spelling row spellings.rows
-named-shows = (refl, refl)
+pub named_shows : (text_in Crate one_token (ascii "a") ≡ ascii "a") × (text_in Crate one_token (ascii "b") ≡ ascii "b")
+unfolding text_of tokens_of whole node means placed rows behind token_of allowed shape record_at bytes_at text adds leaves added left gap gapped tight opens blob spelled_bit written valued_bit all_blank blank spelling row spellings.rows
+named_shows = (refl, refl)
 
 -- the second byte is named by no record: the two texts agree
-pub unnamed-agree : Agree one_token (ascii "a!") (0x61 ∷ 0xFF ∷ [])
-unfolding hasPart recordAt bytes_at
-unnamed-agree = record { parts = λ j l h. by j l h }
+pub unnamed_agree : Agree one_token (ascii "a!") (0x61 ∷ 0xFF ∷ [])
+unfolding has_part record_at bytes_at
+unnamed_agree = record { parts = λ j l h. by j l h }
   where
-    by : (j : ℕ) → j < count one_token → hasPart (recordAt one_token j) ≡ true → part_of (ascii "a!") (recordAt one_token j) ≡ part_of (0x61 ∷ 0xFF ∷ []) (recordAt one_token j)
+    by : (j : ℕ) → j < count one_token → has_part (record_at one_token j) ≡ true → part_of (ascii "a!") (record_at one_token j) ≡ part_of (0x61 ∷ 0xFF ∷ []) (record_at one_token j)
     by zero l h = absurd (false≢true h)
     by (suc zero) l h = refl
     by (suc (suc j)) l h = absurd (omega arith)
@@ -86,13 +86,13 @@ no_text : Text (0x61 ∷ 0xFF ∷ []) → ⊥
 unfolding width counted ones
 no_text t =
     let a : In 0x00 0x7F 0x61 = record { low = leb→le 0x00 0x61 tt; high = leb→le 0x61 0x7F tt } in
-    text-first (text-rest (text-char (one a)) (0xFF ∷ []) t) (width-none (0xFF ∷ []) refl) (omega arith)
+    text_first (text_rest (text_char (one a)) (0xFF ∷ []) t) (width_none (0xFF ∷ []) refl) (omega arith)
 
-pub refused-all-the-same : (m : Mode) (t : List ℕ) (a : Answer) → ChecksIn m t (0x61 ∷ 0xFF ∷ []) a → number_of a ≡ 0 → ⊥
+pub refused_all_the_same : (m : Mode) (t : List ℕ) (a : Answer) → ChecksIn m t (0x61 ∷ 0xFF ∷ []) a → number_of a ≡ 0 → ⊥
 unfolding answer_in
-refused-all-the-same m t a c z = by (malformed t) (eqb (utf8.number c.encoding) 0) _ refl (sym (ap number_of c.answers) ∙ z)
+refused_all_the_same m t a c z = by (malformed t) (eqb (utf8.number c.encoding) 0) _ refl (sym (ap number_of c.answers) ∙ z)
   where
     by : (f e : Bool) (s : Answer) → eqb (utf8.number c.encoding) 0 ≡ e → number_of (cond f Malformed (cond (not e) (Broken c.encoding) s)) ≡ 0 → ⊥
     by true e s q h = omega arith
-    by false true s q h = no_text ((number-text _ c.encoding c.encoded).0 (eqb-true (utf8.number c.encoding) 0 q))
+    by false true s q h = no_text ((number_text _ c.encoding c.encoded).0 (eqb-true (utf8.number c.encoding) 0 q))
     by false false s q h = eqb-false (utf8.number c.encoding) 0 q h

@@ -10,28 +10,28 @@ use Rattle.std.proofs.Math.ListN.{length}
 use Rattle.laws.specs.Among.{among, all, each}
 use Rattle.laws.specs.Tests.{or_left, or_right}
 use Rattle.mode.specs.declared.Mode.{Mode}
-use Rattle.record.specs.Record.{recordAt, count}
+use Rattle.record.specs.Record.{record_at, count}
 use Rattle.grammar.specs.Kind.{RUN, LIST, NONE, TEXT, NUMBER}
-use Rattle.grammar.specs.Shape.{Class, one, list, oneOr, small, ruled}
+use Rattle.grammar.specs.Shape.{Class, one, list, one_or, small, ruled}
 use Rattle.grammar.specs.Grammar.{root}
 use Rattle.grammar.specs.Slots.{allowed}
 use Rattle.tree.specs.Check.{Place, place, holds, ChecksIn}
 use Rattle.tree.specs.declared.Answer.TheVariants.{Admitted}
 use Rattle.render.specs.Render as render
-use Rattle.render.specs.Render.{textIn, outputAfter, MeasuresIn, RendersIn}
-use Rattle.render.specs.Laws.{measures-unique, agree}
+use Rattle.render.specs.Render.{text_in, output_after, MeasuresIn, RendersIn}
+use Rattle.render.specs.Laws.{measures_unique, agree}
 use Rattle.render.specs.declared.Outcome.{Outcome}
 use Rattle.render.specs.declared.Outcome.TheVariants.{Done}
-use Rattle.field.specs.Profile.{foreign, firstNode, takesNode, deepest, breaks, stopped, firstBreak, broken, profiled, ProfilesIn, number_of}
-use Rattle.field.specs.Laws.{length-told, checked}
+use Rattle.field.specs.Profile.{foreign, first_node, takes_node, deepest, breaks, stopped, first_break, broken, profiled, ProfilesIn, number_of}
+use Rattle.field.specs.Laws.{length_told, checked}
 use Rattle.field.specs.declared.Verdict.{Verdict}
 use Rattle.field.specs.declared.Verdict.TheVariants.{Measured, Unfit}
 
 -- ---- where measure refuses, its outcome is the verdict
-pub as-measured : (m : Mode) (t x : List ℕ) (o : Outcome) (v : Verdict) → MeasuresIn m t x o → (render.number_of o ≡ 0 → ⊥) → ProfilesIn m t x v → v ≡ Measured o
+pub as_measured : (m : Mode) (t x : List ℕ) (o : Outcome) (v : Verdict) → MeasuresIn m t x o → (render.number_of o ≡ 0 → ⊥) → ProfilesIn m t x v → v ≡ Measured o
 unfolding profiled
-as-measured m t x o v mm h p =
-    let q : p.outcome ≡ o = measures-unique m t x p.outcome o p.measures mm in
+as_measured m t x o v mm h p =
+    let q : p.outcome ≡ o = measures_unique m t x p.outcome o p.measures mm in
     p.answers ∙ rw (q, ne_eqb (render.number_of o) 0 h)
 
 -- ---- what the profile admits
@@ -49,22 +49,22 @@ module _ {m : Mode} {t x : List ℕ} {v : Verdict} (p : ProfilesIn m t x v) (z :
       by false b q r e = absurd (eqb-false (render.number_of p.outcome) 0 q (sym (ap number_of e) ∙ z))
 
   -- the check admits it in the same mode, with the same text
-  pub check-admits : ChecksIn m t x Admitted
-  check-admits = checked p.measures both.0
+  pub check_admits : ChecksIn m t x Admitted
+  check_admits = checked p.measures both.0
 
   -- the verdict is its length, which measure gives too
-  pub measured-too : (v ≡ Measured (Done (length (textIn m.edition t x)))) × MeasuresIn m t x (Done (length (textIn m.edition t x)))
-  measured-too =
-      let l = length-told p.measures both.0 in
+  pub measured_too : (v ≡ Measured (Done (length (text_in m.edition t x)))) × MeasuresIn m t x (Done (length (text_in m.edition t x)))
+  measured_too =
+      let l = length_told p.measures both.0 in
       (both.1.0 ∙ ap Measured l, rw l at p.measures)
 
   -- and where there is room for so much, render writes the tree's text and nothing beyond it
-  pub rendered-too : {out out' : List ℕ} {o : Outcome} → length (textIn m.edition t x) ≤ length out → RendersIn m t x out o out'
-      → (o ≡ Done (length (textIn m.edition t x))) × (out' ≡ textIn m.edition t x ++ drop (length (textIn m.edition t x)) out)
-  unfolding outputAfter
-  rendered-too {out} {out'} {o} room r =
-      let text = textIn m.edition t x in
-      let done : o ≡ Done (length text) = agree m t x out out' (Done (length text)) o (λ n e. let q : length text ≡ n = cc in omega arith) measured-too.1 r in
+  pub rendered_too : {out out' : List ℕ} {o : Outcome} → length (text_in m.edition t x) ≤ length out → RendersIn m t x out o out'
+      → (o ≡ Done (length (text_in m.edition t x))) × (out' ≡ text_in m.edition t x ++ drop (length (text_in m.edition t x)) out)
+  unfolding output_after
+  rendered_too {out} {out'} {o} room r =
+      let text = text_in m.edition t x in
+      let done : o ≡ Done (length text) = agree m t x out out' (Done (length text)) o (λ n e. let q : length text ≡ n = cc in omega arith) measured_too.1 r in
       (done, rw done at r.writes)
 
 -- ---- its records, each in its place
@@ -72,53 +72,53 @@ module _ {m : Mode} {t x : List ℕ} {v : Verdict} (p : ProfilesIn m t x v) (z :
 abbrev pub Each : (ℕ → Place → Type 0) → List ℕ → ℕ → ℕ → List Place → Type 0
 Each P t zero i ps = Unit {0}
 Each P t (suc n) i [] = Unit {0}
-Each P t (suc n) i (p ∷ ps) = P i p × Each P t n (i + 1) (map (place (p.depth + 1)) (holds p.class (recordAt t i)) ++ ps)
+Each P t (suc n) i (p ∷ ps) = P i p × Each P t n (i + 1) (map (place (p.depth + 1)) (holds p.class (record_at t i)) ++ ps)
 
 -- the record at an index keeps to the profile: it is no foreign one, it stands for no ported node if it is a RUN, and it is no deeper than 24
 pub record Keeps (t : List ℕ) (i : ℕ) (p : Place) : Type 0 where
   pub own : foreign t i ≡ false
-  pub no_run : (recordAt t i).kind ≡ RUN → (k : ℕ) → firstNode ≤ k → allowed p.class k ≡ false
+  pub no_run : (record_at t i).kind ≡ RUN → (k : ℕ) → first_node ≤ k → allowed p.class k ≡ false
   pub shallow : p.depth ≤ deepest
 
-early-kinds : (ks : List ℕ) (k : ℕ) → not (all (λ j. ltb j firstNode) ks) ≡ false → firstNode ≤ k → among k ks ≡ false
-early-kinds ks k h l = by (among k ks) refl
+early_kinds : (ks : List ℕ) (k : ℕ) → not (all (λ j. ltb j first_node) ks) ≡ false → first_node ≤ k → among k ks ≡ false
+early_kinds ks k h l = by (among k ks) refl
   where
     by : (b : Bool) → among k ks ≡ b → b ≡ false
     by false q = refl
-    by true q = absurd (false≢true (sym (le-ltb k firstNode l) ∙ each (λ j. ltb j firstNode) k ks (not-false _ h) q))
+    by true q = absurd (false≢true (sym (le-ltb k first_node l) ∙ each (λ j. ltb j first_node) k ks (not-false _ h) q))
 
-takes_none : (c : Class) (k : ℕ) → takesNode c ≡ false → firstNode ≤ k → allowed c k ≡ false
-unfolding takesNode allowed
-takes_none (one ks) k h l = early-kinds ks k h l
+takes_none : (c : Class) (k : ℕ) → takes_node c ≡ false → first_node ≤ k → allowed c k ≡ false
+unfolding takes_node allowed
+takes_none (one ks) k h l = early_kinds ks k h l
 takes_none (list c) k h l = ne_eqb k LIST (λ e. omega arith)
-takes_none (oneOr ks c) k h l = rw (early-kinds ks k h l) (ne_eqb k LIST (λ e. omega arith))
+takes_none (one_or ks c) k h l = rw (early_kinds ks k h l) (ne_eqb k LIST (λ e. omega arith))
 takes_none small k h l = ne_eqb k NUMBER (λ e. omega arith)
 takes_none (ruled u) k h l = rw (ne_eqb k NONE (λ e. omega arith)) (ne_eqb k TEXT (λ e. omega arith))
 
 keeps : (t : List ℕ) (i : ℕ) (p : Place) → breaks t i p ≡ false → Keeps t i p
 unfolding breaks
 keeps t i p h =
-    let run = eqb (recordAt t i).kind RUN && takesNode p.class in
+    let run = eqb (record_at t i).kind RUN && takes_node p.class in
     let others = or_right (foreign t i) (run || ltb deepest p.depth) h in
     record {
       own = or_left (foreign t i) (run || ltb deepest p.depth) h;
-      no_run = λ e k l. takes_none p.class k (rw (eq-eqb (recordAt t i).kind RUN e) at (or_left run (ltb deepest p.depth) others)) l;
+      no_run = λ e k l. takes_none p.class k (rw (eq-eqb (record_at t i).kind RUN e) at (or_left run (ltb deepest p.depth) others)) l;
       shallow = ltb-false deepest p.depth (or_right run (ltb deepest p.depth) others);
     }
 
-all_keep : (t : List ℕ) (n i : ℕ) (ps : List Place) → (firstBreak t n i ps).broken ≡ false → Each (Keeps t) t n i ps
-unfolding firstBreak
+all_keep : (t : List ℕ) (n i : ℕ) (ps : List Place) → (first_break t n i ps).broken ≡ false → Each (Keeps t) t n i ps
+unfolding first_break
 all_keep t zero i ps h = tt
 all_keep t (suc n) i [] h = tt
 all_keep t (suc n) i (p ∷ ps) h =
-    let qs = map (place (p.depth + 1)) (holds p.class (recordAt t i)) ++ ps in
+    let qs = map (place (p.depth + 1)) (holds p.class (record_at t i)) ++ ps in
     by qs (breaks t i p) refl h (all_keep t n (i + 1) qs)
   where
-    by : (qs : List Place) (b : Bool) → breaks t i p ≡ b → (cond b (stopped i) (firstBreak t n (i + 1) qs)).broken ≡ false
-        → ((firstBreak t n (i + 1) qs).broken ≡ false → Each (Keeps t) t n (i + 1) qs) → Keeps t i p × Each (Keeps t) t n (i + 1) qs
+    by : (qs : List Place) (b : Bool) → breaks t i p ≡ b → (cond b (stopped i) (first_break t n (i + 1) qs)).broken ≡ false
+        → ((first_break t n (i + 1) qs).broken ≡ false → Each (Keeps t) t n (i + 1) qs) → Keeps t i p × Each (Keeps t) t n (i + 1) qs
     by qs true q e rest = absurd (false≢true (sym e))
     by qs false q e rest = (keeps t i p q, rest e)
 
-pub keep-to-it : {m : Mode} {t x : List ℕ} {v : Verdict} → ProfilesIn m t x v → number_of v ≡ 0 → Each (Keeps t) t (count t) 0 (place 1 root ∷ [])
+pub keep_to_it : {m : Mode} {t x : List ℕ} {v : Verdict} → ProfilesIn m t x v → number_of v ≡ 0 → Each (Keeps t) t (count t) 0 (place 1 root ∷ [])
 unfolding broken
-keep-to-it {t = t} p z = all_keep t (count t) 0 (place 1 root ∷ []) (both p z).1.1
+keep_to_it {t = t} p z = all_keep t (count t) 0 (place 1 root ∷ []) (both p z).1.1

@@ -5,9 +5,9 @@ use Rattle.std.specs.Prelude.{ℕ, zero, suc, ◌+◌, ◌≡◌, List, [], ◌�
 use Rattle.laws.specs.Among.{among, all}
 use Rattle.laws.specs.First.{first}
 use Rattle.mode.specs.declared.Mode.{Mode}
-use Rattle.record.specs.Record.{recordAt, count}
+use Rattle.record.specs.Record.{record_at, count}
 use Rattle.grammar.specs.Kind.{RUN, Cmd, AlterTable, CreateIndex, CreateTable, DropIndex, DropTable}
-use Rattle.grammar.specs.Shape.{Class, one, list, oneOr, small, ruled}
+use Rattle.grammar.specs.Shape.{Class, one, list, one_or, small, ruled}
 use Rattle.grammar.specs.Grammar.{root}
 use Rattle.tree.specs.Check.{Place, place, holds}
 use Rattle.render.specs.Render as render
@@ -23,8 +23,8 @@ five = CreateTable ∷ CreateIndex ∷ DropTable ∷ DropIndex ∷ AlterTable �
 -- record 0 is neither one of the five nor a Cmd with flags 0, or record 1 below a Cmd is none of the five
 unfoldable pub foreign : List ℕ → ℕ → Bool
 foreign t i =
-    let head = recordAt t 0 in
-    let stranger = not (among (recordAt t i).kind five) in
+    let head = record_at t 0 in
+    let stranger = not (among (record_at t i).kind five) in
     first
     ((eqb i 0, stranger && not (eqb head.kind Cmd && eqb head.flags 0))
     ∷ (eqb i 1, stranger && eqb head.kind Cmd)
@@ -32,23 +32,23 @@ foreign t i =
     false
 
 -- the ported nodes are the kinds from here up
-abbrev pub firstNode : ℕ
-firstNode = 32
+abbrev pub first_node : ℕ
+first_node = 32
 
 -- a place that takes one of them
-unfoldable pub takesNode : Class → Bool
-takesNode (one ks) = not (all (λ k. ltb k firstNode) ks)
-takesNode (list c) = false
-takesNode (oneOr ks c) = not (all (λ k. ltb k firstNode) ks)
-takesNode small = false
-takesNode (ruled u) = false
+unfoldable pub takes_node : Class → Bool
+takes_node (one ks) = not (all (λ k. ltb k first_node) ks)
+takes_node (list c) = false
+takes_node (one_or ks c) = not (all (λ k. ltb k first_node) ks)
+takes_node small = false
+takes_node (ruled u) = false
 
 abbrev pub deepest : ℕ
 deepest = 24
 
 -- the record at index i breaks the profile in its place
 unfoldable pub breaks : List ℕ → ℕ → Place → Bool
-breaks t i p = foreign t i || ((eqb (recordAt t i).kind RUN && takesNode p.class) || ltb deepest p.depth)
+breaks t i p = foreign t i || ((eqb (record_at t i).kind RUN && takes_node p.class) || ltb deepest p.depth)
 
 abbrev pub stopped : ℕ → Found
 stopped i = record { broken = true; at = i }
@@ -57,15 +57,15 @@ abbrev pub behind : ℕ → Found
 behind i = record { broken = false; at = i }
 
 -- the first that breaks it, of the n records from index i on, which fill these places as the check's scan has them; or the index behind them
-unfoldable pub firstBreak : List ℕ → ℕ → ℕ → List Place → Found
-firstBreak t zero i ps = behind i
-firstBreak t (suc n) i [] = behind i
-firstBreak t (suc n) i (p ∷ ps) =
-    cond (breaks t i p) (stopped i) (firstBreak t n (i + 1) (map (place (p.depth + 1)) (holds p.class (recordAt t i)) ++ ps))
+unfoldable pub first_break : List ℕ → ℕ → ℕ → List Place → Found
+first_break t zero i ps = behind i
+first_break t (suc n) i [] = behind i
+first_break t (suc n) i (p ∷ ps) =
+    cond (breaks t i p) (stopped i) (first_break t n (i + 1) (map (place (p.depth + 1)) (holds p.class (record_at t i)) ++ ps))
 
 -- of all records
 unfoldable pub broken : List ℕ → Found
-broken t = firstBreak t (count t) 0 (place 1 root ∷ [])
+broken t = first_break t (count t) 0 (place 1 root ∷ [])
 
 -- what the profile answers, where measure answers this
 unfoldable pub profiled : List ℕ → Outcome → Verdict

@@ -7,48 +7,48 @@ use Rattle.std.specs.Prelude.{◌≡◌, refl, List, [], ◌∷◌, ◌++◌, ma
 use Rattle.std.proofs.Common.{◌∙◌, ap, sym}
 use Rattle.std.proofs.lemmas.Bool.{false≢true}
 use Rattle.mode.specs.declared.Edition.TheVariants.{Crate}
-use Rattle.record.specs.Record.{recordAt, count}
+use Rattle.record.specs.Record.{record_at, count}
 use Rattle.grammar.specs.Shape.{Class}
 use Rattle.grammar.specs.Packed.{turn}
 use Rattle.tree.specs.Check.{Place, place, holds, fits}
 use Rattle.tree.specs.Steps.{childless}
 use Rattle.tree.specs.Walk.{refused}
-use Rattle.tokens.specs.Tokens.{inEdition}
+use Rattle.tokens.specs.Tokens.{in_edition}
 use Rattle.admitted.specs.Fills.{Fills, fill}
-use Rattle.field.specs.Profile.{breaks, stopped, behind, firstBreak}
-use Rattle.field.specs.Nodes.{nodesAt, nodesBelow, codes, breaksBy, breaks-is, depth-left, codes-below}
+use Rattle.field.specs.Profile.{breaks, stopped, behind, first_break}
+use Rattle.field.specs.Nodes.{nodes_at, nodes_below, codes, breaks_by, breaks_is, depth_left, codes_below}
 use Rattle.field.specs.declared.Found.{Found}
 
 -- the records of a tree from index i on fill these places, with some text
 pub record Sound (t : List ℕ) (ps : List Place) (i : ℕ) : Type 0 where
   pub text : List ℕ
-  pub fills : Fills (inEdition t text Crate) ps i
+  pub fills : Fills (in_edition t text Crate) ps i
   pub short : count t < refused
 
 -- what is broken behind a walk that came to w, where these places are left
 unfoldable pub resumed : List ℕ → Found → List Place → Found
-resumed t w ps = cond w.broken w (firstBreak t (count t - w.at) w.at ps)
+resumed t w ps = cond w.broken w (first_break t (count t - w.at) w.at ps)
 
 -- the walk from index i with the places ps came to w with qs left, whatever places follow
 pub record Goes (t : List ℕ) (i : ℕ) (ps : List Place) (w : Found) (qs : List Place) : Type 0 where
-  pub is : (rest : List Place) → Sound t (ps ++ rest) i → firstBreak t (count t - i) i (ps ++ rest) ≡ resumed t w (qs ++ rest)
+  pub is : (rest : List Place) → Sound t (ps ++ rest) i → first_break t (count t - i) i (ps ++ rest) ≡ resumed t w (qs ++ rest)
   pub on : (rest : List Place) → Sound t (ps ++ rest) i → w.broken ≡ false → Sound t (qs ++ rest) w.at
 
 -- n records from an index on stand in places with these numbers, with so much depth left
 pub record Led (t : List ℕ) (i left u n : ℕ) : Type 0 where
   pub classes : List Class
-  pub coded : map nodesAt classes ≡ codes u n
+  pub coded : map nodes_at classes ≡ codes u n
   pub rest : List Place
   pub sound : Sound t (map (place (25 - left)) classes ++ rest) i
 
 -- w is what a walk over them comes to, whatever places they are
 abbrev pub Finds : List ℕ → ℕ → ℕ → ℕ → ℕ → Found → Type 0
-Finds t i left u n w = (cs : List Class) → map nodesAt cs ≡ codes u n → Goes t i (map (place (25 - left)) cs) w []
+Finds t i left u n w = (cs : List Class) → map nodes_at cs ≡ codes u n → Goes t i (map (place (25 - left)) cs) w []
 
 -- the same on the way: some places are left, with these numbers
 pub record Going (t : List ℕ) (i : ℕ) (ps : List Place) (left next u n : ℕ) : Type 0 where
   pub classes : List Class
-  pub coded : map nodesAt classes ≡ codes u n
+  pub coded : map nodes_at classes ≡ codes u n
   pub goes : Goes t i ps (behind next) (map (place (25 - left)) classes)
 
 -- ---- the ways of a walk
@@ -57,18 +57,18 @@ module _ (t : List ℕ) where
   unfolding resumed
   start i ps = record { is = λ rest h. refl; on = λ rest h z. h }
 
-  below-sound : {ps : List Place} {i d : ℕ} {c : Class} → Sound t (place d c ∷ ps) i → Sound t (map (place (d + 1)) (holds c (recordAt t i)) ++ ps) (i + 1)
-  below-sound s = record { text = s.text; fills = (fill s.fills).on; short = s.short }
+  below_sound : {ps : List Place} {i d : ℕ} {c : Class} → Sound t (place d c ∷ ps) i → Sound t (map (place (d + 1)) (holds c (record_at t i)) ++ ps) (i + 1)
+  below_sound s = record { text = s.text; fills = (fill s.fills).on; short = s.short }
 
   module _ {i : ℕ} {ps : List Place} {j d : ℕ} {c : Class} {qs : List Place} (g : Goes t i ps (behind j) (place d c ∷ qs)) (b : Bool) (be : b ≡ breaks t j (place d c)) where
     arrives : (rest : List Place) → Sound t (ps ++ rest) i → Sound t (place d c ∷ (qs ++ rest)) j
     arrives rest s = g.on rest s refl
 
-    one-step : (rest : List Place) → Sound t (ps ++ rest) i
-        → firstBreak t (count t - j) j (place d c ∷ (qs ++ rest))
-        ≡ cond b (stopped j) (firstBreak t (count t - (j + 1)) (j + 1) (map (place (d + 1)) (holds c (recordAt t j)) ++ (qs ++ rest)))
-    unfolding firstBreak
-    one-step rest s =
+    one_step : (rest : List Place) → Sound t (ps ++ rest) i
+        → first_break t (count t - j) j (place d c ∷ (qs ++ rest))
+        ≡ cond b (stopped j) (first_break t (count t - (j + 1)) (j + 1) (map (place (d + 1)) (holds c (record_at t j)) ++ (qs ++ rest)))
+    unfolding first_break
+    one_step rest s =
         let l = (fill (arrives rest s).fills).there in
         let n : count t - j ≡ suc (count t - (j + 1)) = omega arith in
         rw (n, be)
@@ -76,17 +76,17 @@ module _ (t : List ℕ) where
     -- the next record breaks the profile
     stops : b ≡ true → Goes t i ps (stopped j) []
     unfolding resumed
-    stops z = record { is = λ rest s. g.is rest s ∙ one-step rest s ∙ rw z; on = λ rest s y. absurd (false≢true (sym y)) }
+    stops z = record { is = λ rest s. g.is rest s ∙ one_step rest s ∙ rw z; on = λ rest s y. absurd (false≢true (sym y)) }
 
     -- or it does not, and all below it, which fits its place, come to w
-    passes : b ≡ false → {w : Found} → (fits c (recordAt t j) ≡ true → Goes t (j + 1) (map (place (d + 1)) (holds c (recordAt t j))) w []) → Goes t i ps w qs
+    passes : b ≡ false → {w : Found} → (fits c (record_at t j) ≡ true → Goes t (j + 1) (map (place (d + 1)) (holds c (record_at t j))) w []) → Goes t i ps w qs
     unfolding resumed
     passes z {w} below =
         record {
           is = λ rest s.
               let a = arrives rest s in
-              g.is rest s ∙ one-step rest s ∙ rw z ((below (fill a.fills).fit).is (qs ++ rest) (below-sound a));
-          on = λ rest s. let a = arrives rest s in (below (fill a.fills).fit).on (qs ++ rest) (below-sound a);
+              g.is rest s ∙ one_step rest s ∙ rw z ((below (fill a.fills).fit).is (qs ++ rest) (below_sound a));
+          on = λ rest s. let a = arrives rest s in (below (fill a.fills).fit).on (qs ++ rest) (below_sound a);
         }
 
 -- ---- the first place and the others
@@ -94,21 +94,21 @@ record Split (cs : List Class) (u n : ℕ) : Type 0 where
   class : Class
   others : List Class
   are : cs ≡ class ∷ others
-  first : nodesAt class ≡ u % 256
-  coded : map nodesAt others ≡ codes (turn u) (n - 1)
+  first : nodes_at class ≡ u % 256
+  coded : map nodes_at others ≡ codes (turn u) (n - 1)
 
-split : (cs : List Class) (u n : ℕ) → map nodesAt cs ≡ codes u n → 0 < n → Split cs u n
+split : (cs : List Class) (u n : ℕ) → map nodes_at cs ≡ codes u n → 0 < n → Split cs u n
 split cs u n e h = let z : n ≡ suc (n - 1) = omega arith in by cs (rw z at e)
   where
-    by : (ds : List Class) → map nodesAt ds ≡ u % 256 ∷ codes (turn u) (n - 1) → Split ds u n
+    by : (ds : List Class) → map nodes_at ds ≡ u % 256 ∷ codes (turn u) (n - 1) → Split ds u n
     by [] q = let z : ◌≡◌ {A = ℕ} 0 1 = cc in absurd (omega arith)
     by (d ∷ ds) q = record { class = d; others = ds; are = refl; first = cc; coded = cc }
 
 -- no place is left
-pub all-met : (t : List ℕ) (i : ℕ) (ps : List Place) (left next u n : ℕ) → n ≤ 0 → Going t i ps left next u n → Goes t i ps (behind next) []
-all-met t i ps left next u n h g = let z : n ≡ 0 = omega arith in rw (none g.classes (rw z at g.coded)) at g.goes
+pub all_met : (t : List ℕ) (i : ℕ) (ps : List Place) (left next u n : ℕ) → n ≤ 0 → Going t i ps left next u n → Goes t i ps (behind next) []
+all_met t i ps left next u n h g = let z : n ≡ 0 = omega arith in rw (none g.classes (rw z at g.coded)) at g.goes
   where
-    none : (cs : List Class) → map nodesAt cs ≡ [] → cs ≡ []
+    none : (cs : List Class) → map nodes_at cs ≡ [] → cs ≡ []
     none [] q = refl
     none (c ∷ cs) q = let z : ◌≡◌ {A = ℕ} 0 1 = cc in absurd (omega arith)
 
@@ -117,73 +117,73 @@ module _ {t : List ℕ} {i : ℕ} {ps : List Place} {left next u n : ℕ} (g : G
   s : Split g.classes u n
   s = split g.classes u n g.coded some
 
-  goes-here : Goes t i ps (behind next) (place (25 - left) s.class ∷ map (place (25 - left)) s.others)
-  goes-here = rw s.are at g.goes
+  goes_here : Goes t i ps (behind next) (place (25 - left) s.class ∷ map (place (25 - left)) s.others)
+  goes_here = rw s.are at g.goes
 
-  few : nodesAt s.class < 256
+  few : nodes_at s.class < 256
   few = omega (arith, s.first)
 
   -- the record is there, and with depth left its children stand in the places below
   module _ (rest : List Place) (sound : Sound t (ps ++ rest) i) where
     here : Sound t (place (25 - left) s.class ∷ (map (place (25 - left)) s.others ++ rest)) next
-    here = goes-here.on rest sound refl
+    here = goes_here.on rest sound refl
 
-    pub turn-there : (next < count t) × (count t < refused)
-    turn-there = ((fill here.fills).there, here.short)
+    pub turn_there : (next < count t) × (count t < refused)
+    turn_there = ((fill here.fills).there, here.short)
 
-    pub turn-led : 1 ≤ left → left ≤ 24 → Led t (next + 1) (left - 1) (nodesBelow (u % 256) (recordAt t next).kind) (recordAt t next).kids
-    turn-led l h =
+    pub turn_led : 1 ≤ left → left ≤ 24 → Led t (next + 1) (left - 1) (nodes_below (u % 256) (record_at t next).kind) (record_at t next).kids
+    turn_led l h =
         let d : 25 - left + 1 ≡ 25 - (left - 1) = omega arith in
         record {
-          classes = holds s.class (recordAt t next);
-          coded = rw s.first at (codes-below s.class (recordAt t next) few (fill here.fills).fit);
+          classes = holds s.class (record_at t next);
+          coded = rw s.first at (codes_below s.class (record_at t next) few (fill here.fills).fit);
           rest = map (place (25 - left)) s.others ++ rest;
-          sound = rw d at (below-sound t here);
+          sound = rw d at (below_sound t here);
         }
 
-  module _ (b : Bool) (be : b ≡ breaksBy t next (u % 256) left) where
-    test-here : b ≡ breaks t next (place (25 - left) s.class)
-    test-here = be ∙ rw (sym s.first) (breaks-is t next s.class left)
+  module _ (b : Bool) (be : b ≡ breaks_by t next (u % 256) left) where
+    test_here : b ≡ breaks t next (place (25 - left) s.class)
+    test_here = be ∙ rw (sym s.first) (breaks_is t next s.class left)
 
-    pub turn-breaks : b ≡ true → Goes t i ps (stopped next) []
-    turn-breaks = stops t goes-here b test-here
+    pub turn_breaks : b ≡ true → Goes t i ps (stopped next) []
+    turn_breaks = stops t goes_here b test_here
 
-    pub turn-left : b ≡ false → 1 ≤ left
-    turn-left z = depth-left t next (u % 256) left (sym be ∙ z)
+    pub turn_left : b ≡ false → 1 ≤ left
+    turn_left z = depth_left t next (u % 256) left (sym be ∙ z)
 
     -- all below the record come to w
-    module _ (z : b ≡ false) {w : Found} (below : fits s.class (recordAt t next) ≡ true → Goes t (next + 1) (map (place (25 - left + 1)) (holds s.class (recordAt t next))) w []) where
-      on-all : Goes t i ps w (map (place (25 - left)) s.others)
-      on-all = passes t goes-here b test-here z below
+    module _ (z : b ≡ false) {w : Found} (below : fits s.class (record_at t next) ≡ true → Goes t (next + 1) (map (place (25 - left + 1)) (holds s.class (record_at t next))) w []) where
+      on_all : Goes t i ps w (map (place (25 - left)) s.others)
+      on_all = passes t goes_here b test_here z below
 
       turn_stopped : w.broken ≡ true → Goes t i ps w []
       unfolding resumed
       turn_stopped y =
-          record { is = λ rest q. rw y (rw y at (on-all.is rest q)); on = λ rest q e. absurd (false≢true (sym e ∙ y)) }
+          record { is = λ rest q. rw y (rw y at (on_all.is rest q)); on = λ rest q e. absurd (false≢true (sym e ∙ y)) }
 
-      turn-past : w.broken ≡ false → Going t i ps left w.at (turn u) (n - 1)
-      turn-past y =
+      turn_past : w.broken ≡ false → Going t i ps left w.at (turn u) (n - 1)
+      turn_past y =
           let e : behind w.at ≡ w = sym (ap (λ (k : Bool). record { broken = k; at = w.at }) y) in
-          record { classes = s.others; coded = s.coded; goes = rw e on-all }
+          record { classes = s.others; coded = s.coded; goes = rw e on_all }
 
     -- by the walk below it
-    module _ (z : b ≡ false) (h : left ≤ 24) {w : Found} (found : Finds t (next + 1) (left - 1) (nodesBelow (u % 256) (recordAt t next).kind) (recordAt t next).kids w) where
-      walked-below : fits s.class (recordAt t next) ≡ true → Goes t (next + 1) (map (place (25 - left + 1)) (holds s.class (recordAt t next))) w []
-      walked-below fe =
-          let l = turn-left z in
+    module _ (z : b ≡ false) (h : left ≤ 24) {w : Found} (found : Finds t (next + 1) (left - 1) (nodes_below (u % 256) (record_at t next).kind) (record_at t next).kids w) where
+      walked_below : fits s.class (record_at t next) ≡ true → Goes t (next + 1) (map (place (25 - left + 1)) (holds s.class (record_at t next))) w []
+      walked_below fe =
+          let l = turn_left z in
           let d : 25 - left + 1 ≡ 25 - (left - 1) = omega arith in
-          rw d (found (holds s.class (recordAt t next)) (rw s.first at (codes-below s.class (recordAt t next) few fe)))
+          rw d (found (holds s.class (record_at t next)) (rw s.first at (codes_below s.class (record_at t next) few fe)))
 
-      pub turn-found : w.broken ≡ true → Goes t i ps w []
-      turn-found = turn_stopped z walked-below
+      pub turn_found : w.broken ≡ true → Goes t i ps w []
+      turn_found = turn_stopped z walked_below
 
       pub turn_on : w.broken ≡ false → Going t i ps left w.at (turn u) (n - 1)
-      turn_on = turn-past z walked-below
+      turn_on = turn_past z walked_below
 
     -- or since there is nothing below it
-    module _ (z : b ≡ false) (none : (recordAt t next).kids ≡ 0) where
-      none_below : fits s.class (recordAt t next) ≡ true → Goes t (next + 1) (map (place (25 - left + 1)) (holds s.class (recordAt t next))) (behind (next + 1)) []
-      none_below fe = rw (childless s.class (recordAt t next) fe none) (start t (next + 1) [])
+    module _ (z : b ≡ false) (none : (record_at t next).kids ≡ 0) where
+      none_below : fits s.class (record_at t next) ≡ true → Goes t (next + 1) (map (place (25 - left + 1)) (holds s.class (record_at t next))) (behind (next + 1)) []
+      none_below fe = rw (childless s.class (record_at t next) fe none) (start t (next + 1) [])
 
-      pub turn-childless : Going t i ps left (next + 1) (turn u) (n - 1)
-      turn-childless = turn-past z none_below refl
+      pub turn_childless : Going t i ps left (next + 1) (turn u) (n - 1)
+      turn_childless = turn_past z none_below refl

@@ -4,9 +4,9 @@
 // takes a ported node, and of a LIST's place whether its elements do: a kind's places are a number, a byte for each child.
 ghost use Rattle.std.specs.Prelude.{◌≡◌, ◌≤◌, ◌<◌};
 ghost use Rattle.laws.specs.Among.{among};
-ghost use Rattle.record.specs.Record.{recordAt};
+ghost use Rattle.record.specs.Record.{record_at};
 ghost use Rattle.field.specs.Profile.{five, foreign as foreign', ProfilesIn, number_of, place_of};
-ghost use Rattle.field.specs.Nodes.{nodesOf, nodesBelow, breaksBy};
+ghost use Rattle.field.specs.Nodes.{nodes_of as nodes_of', nodes_below as nodes_below', breaks_by};
 ghost use Rattle.field.specs.Walk.{Led, Finds};
 
 use grammar::kind;
@@ -94,7 +94,7 @@ fn of_the_five(k: u16) -> bool
 
 // Whether record 0 is none of the five and no plain Cmd, or record 1 below a Cmd none of the five.
 fn foreign(tree: &[u8], index: usize, r: Record) -> bool
-    requires { r ≡ recordAt tree.now index }
+    requires { r ≡ record_at tree.now index }
     ensures { result ≡ foreign' tree.now index }
 {
     if 1 < index {
@@ -109,8 +109,8 @@ fn foreign(tree: &[u8], index: usize, r: Record) -> bool
 
 // Whether the record r at an index breaks the profile, in a place with this depth left.
 fn breaks(tree: &[u8], index: usize, r: Record, place: u64, left: usize) -> bool
-    requires { r ≡ recordAt tree.now index }
-    ensures { result ≡ breaksBy tree.now index place left }
+    requires { r ≡ record_at tree.now index }
+    ensures { result ≡ breaks_by tree.now index place left }
 {
     if left == 0 {
         return true;
@@ -123,7 +123,7 @@ fn breaks(tree: &[u8], index: usize, r: Record, place: u64, left: usize) -> bool
 
 // The places of a kind's children.
 fn nodes_of(k: u16) -> u64
-    ensures { result ≡ nodesOf k }
+    ensures { result ≡ nodes_of' k }
 {
     match k {
         kind::CMD => 0x1,
@@ -166,7 +166,7 @@ fn nodes_of(k: u16) -> u64
 // The places of the children of a kind that stands in a place: a LIST's elements all stand in the same one.
 fn nodes_below(place: u64, k: u16) -> u64
     requires { place < 256 }
-    ensures { result ≡ nodesBelow place k }
+    ensures { result ≡ nodes_below' place k }
 {
     if k == kind::LIST {
         return place / BIT * EACH;

@@ -12,10 +12,10 @@ entries p (r ∷ rs) = p r.0 r.1 && entries p rs
 
 -- so it passes at each kind, if it does at a kind without an entry
 module _ (p : ℕ → Shape → Bool) (k : ℕ) (other : p k nothing ≡ true) where
-  looked-up : (rs : List (ℕ × Shape)) → entries p rs ≡ true → p k (lookup rs k) ≡ true
-  looked-up [] h = other
-  looked-up (r ∷ rs) h =
-      by (eqb k r.0) refl (and_left (p r.0 r.1) (entries p rs) h) (looked-up rs (and_right (p r.0 r.1) (entries p rs) h))
+  looked_up : (rs : List (ℕ × Shape)) → entries p rs ≡ true → p k (lookup rs k) ≡ true
+  looked_up [] h = other
+  looked_up (r ∷ rs) h =
+      by (eqb k r.0) refl (and_left (p r.0 r.1) (entries p rs) h) (looked_up rs (and_right (p r.0 r.1) (entries p rs) h))
     where
       by : (b : Bool) → eqb k r.0 ≡ b → p r.0 r.1 ≡ true → p k (lookup rs k) ≡ true → p k (cond b r.1 (lookup rs k)) ≡ true
       by true e here later = rw (eqb-true k r.0 e) here
@@ -23,4 +23,4 @@ module _ (p : ℕ → Shape → Bool) (k : ℕ) (other : p k nothing ≡ true) w
 
   pub entry : entries p table ≡ true → p k (shape k) ≡ true
   unfolding shape
-  entry h = looked-up table h
+  entry h = looked_up table h

@@ -5,25 +5,25 @@ use Rattle.std.proofs.lemmas.Bool.{eqb-false}
 use Rattle.laws.specs.Among.{among}
 use Rattle.grammar.specs.Grammar.{from}
 
-pub before-all : (k n m : ℕ) → k < n → among k (from n m) ≡ false
-before-all k n zero h = refl
-before-all k n (suc m) h = rw (ne_eqb k n (λ e. omega arith)) (before-all k (n + 1) m (omega arith))
+pub before_all : (k n m : ℕ) → k < n → among k (from n m) ≡ false
+before_all k n zero h = refl
+before_all k n (suc m) h = rw (ne_eqb k n (λ e. omega arith)) (before_all k (n + 1) m (omega arith))
 
-pub behind-all : (k n m : ℕ) → n + m ≤ k → among k (from n m) ≡ false
-behind-all k n zero h = refl
-behind-all k n (suc m) h = rw (ne_eqb k n (λ e. omega arith)) (behind-all k (n + 1) m (omega arith))
+pub behind_all : (k n m : ℕ) → n + m ≤ k → among k (from n m) ≡ false
+behind_all k n zero h = refl
+behind_all k n (suc m) h = rw (ne_eqb k n (λ e. omega arith)) (behind_all k (n + 1) m (omega arith))
 
-pub among-both : (k : ℕ) (xs ys : List ℕ) → among k (xs ++ ys) ≡ (among k xs || among k ys)
-among-both k [] ys = refl
-among-both k (x ∷ xs) ys = by (eqb k x) (among-both k xs ys)
+pub among_both : (k : ℕ) (xs ys : List ℕ) → among k (xs ++ ys) ≡ (among k xs || among k ys)
+among_both k [] ys = refl
+among_both k (x ∷ xs) ys = by (eqb k x) (among_both k xs ys)
   where
     by : (b : Bool) → among k (xs ++ ys) ≡ (among k xs || among k ys) → (b || among k (xs ++ ys)) ≡ ((b || among k xs) || among k ys)
     by true e = refl
     by false e = e
 
-pub or-none : (b : Bool) → (b || false) ≡ b
-or-none true = refl
-or-none false = refl
+pub or_none : (b : Bool) → (b || false) ≡ b
+or_none true = refl
+or_none false = refl
 
 pub inside : (k n m : ℕ) → n ≤ k → k < n + m → among k (from n m) ≡ true
 inside k n zero h l = absurd (omega arith)

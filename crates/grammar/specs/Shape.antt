@@ -5,14 +5,14 @@ use Prim.Native.String.{String}
 infixr 30 ◌·◌
 -- a TEXT that a request of 02 has a rule for
 pub data Rule : Type 0 where
-  checkSource : Rule  -- a CHECK's source (vii)
-  withoutRowid : Rule  -- the without-rowid text (viii)
+  check_source : Rule  -- a CHECK's source (vii)
+  without_rowid : Rule  -- the without_rowid_lem text (viii)
 
 -- what may stand in a place (01, section 2)
 pub data Class : Type 0 where
   one : List ℕ → Class  -- a record of one of these kinds
   list : Class → Class  -- a LIST, one such place an element
-  oneOr : List ℕ → Class → Class  -- a record of one of these kinds, or a LIST of such places
+  one_or : List ℕ → Class → Class  -- a record of one of these kinds, or a LIST of such places
   small : Class  -- a NUMBER from 0 to 255
   ruled : Rule → Class  -- a TEXT with a rule, or NONE
 
@@ -38,7 +38,7 @@ pub data Shape : Type 0 where
   decimal : Shape  -- the next child, a NUMBER or NONE, as TK_ID
   brackets : Shape  -- the next child, a small NUMBER: so many pairs of brackets
   quoted : Shape  -- the next child, a TEXT, as TK_STRING between quotes
-  rowid : Shape  -- the next child, the without-rowid TEXT or NONE (section 4)
+  rowid : Shape  -- the next child, the without_rowid_lem TEXT or NONE (section 4)
   source : Shape  -- the next children, a CHECK's expression and its source TEXT or NONE (section 4)
   both : Shape → Shape → Shape  -- one behind the other; in SQLite's edition with a comma between them where both are written
   later : Shape → Shape → Shape  -- held in this order, written in the other

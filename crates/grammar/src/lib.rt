@@ -5,8 +5,8 @@
 pub mod kind;
 
 ghost use Rattle.std.specs.Prelude.{◌≡◌, ◌%◌, ◌<◌};
-ghost use Rattle.grammar.specs.Classes.{classesHeld};
-ghost use Rattle.grammar.specs.Packed.{kindsHeld, standsOf, elementOf, ruleOf, places_of, row_of, turn};
+ghost use Rattle.grammar.specs.Classes.{classes_held};
+ghost use Rattle.grammar.specs.Packed.{kinds_held, stands_of, element_of, rule_of, places_of, row_of, turn};
 
 // The places that the check names itself: the root, and a NUMBER up to 255.
 pub const ROOT: u8 = 1;
@@ -41,8 +41,8 @@ const EACH: u64 = 0x101_0101_0101_0101;
 
 // The places where a kind that there is may stand, a bit for each.
 fn stands_held(kind: u16) -> u64
-    requires { kind < kindsHeld }
-    ensures { result ≡ standsOf kind }
+    requires { kind < kinds_held }
+    ensures { result ≡ stands_of kind }
 {
     match kind {
         0 => 0x600304021c100,
@@ -172,7 +172,7 @@ fn stands_held(kind: u16) -> u64
 
 // The places where a kind may stand, a bit for each.
 pub fn stands(kind: u16) -> u64
-    ensures { result ≡ standsOf kind }
+    ensures { result ≡ stands_of kind }
 {
     if KINDS_HELD <= kind {
         return NONE_OF_THEM;
@@ -182,8 +182,8 @@ pub fn stands(kind: u16) -> u64
 
 // The place of each element, where a LIST stands in a place that there is.
 fn element_held(place: u8) -> u8
-    requires { place < classesHeld }
-    ensures { result ≡ elementOf place }
+    requires { place < classes_held }
+    ensures { result ≡ element_of place }
 {
     match place {
         0 => 0,
@@ -243,7 +243,7 @@ fn element_held(place: u8) -> u8
 
 // The place of each element, where a LIST stands in a place.
 fn element(place: u8) -> u8
-    ensures { result ≡ elementOf place }
+    ensures { result ≡ element_of place }
 {
     if PLACES <= place {
         return NOWHERE;
@@ -253,8 +253,8 @@ fn element(place: u8) -> u8
 
 // A kind's rule: the number that its flags are below, and from SLOTS on how many slots it has. The kind is one that there is.
 fn rule_held(kind: u16) -> u16
-    requires { kind < kindsHeld }
-    ensures { result ≡ ruleOf kind }
+    requires { kind < kinds_held }
+    ensures { result ≡ rule_of kind }
 {
     match kind {
         0 => 0x001,
@@ -384,7 +384,7 @@ fn rule_held(kind: u16) -> u16
 
 // A kind's rule: the number that its flags are below, and from SLOTS on how many slots it has.
 pub fn rule(kind: u16) -> u16
-    ensures { result ≡ ruleOf kind }
+    ensures { result ≡ rule_of kind }
 {
     if KINDS_HELD <= kind {
         return BARE;
@@ -394,7 +394,7 @@ pub fn rule(kind: u16) -> u16
 
 // The row of the slots of a kind that there is.
 fn places_held(kind: u16) -> u64
-    requires { kind < kindsHeld }
+    requires { kind < kinds_held }
     ensures { result ≡ places_of kind }
 {
     match kind {

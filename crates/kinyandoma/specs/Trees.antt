@@ -31,11 +31,11 @@ abbrev pub Renders : List ℕ → List ℕ → List ℕ → ℕ → List ℕ →
 Renders = RendersIn plain
 
 -- no two outcomes satisfy the contract
-pub measures-unique : (m : Mode) (t x : List ℕ) (a b : ℕ) → MeasuresIn m t x a → MeasuresIn m t x b → a ≡ b
-measures-unique m t x a b f g =
-    f.answers ∙ ap code (laws.measures-unique m t x f.outcome g.outcome f.measures g.measures) ∙ sym g.answers
+pub measures_unique : (m : Mode) (t x : List ℕ) (a b : ℕ) → MeasuresIn m t x a → MeasuresIn m t x b → a ≡ b
+measures_unique m t x a b f g =
+    f.answers ∙ ap code (laws.measures_unique m t x f.outcome g.outcome f.measures g.measures) ∙ sym g.answers
 
-pub renders-unique : (m : Mode) (t x out : List ℕ) (a b : ℕ) (k l : List ℕ) → RendersIn m t x out a k → RendersIn m t x out b l → (a ≡ b) × (k ≡ l)
-renders-unique m t x out a b k l f g =
-    let u = laws.renders-unique m t x out f.outcome g.outcome k l f.renders g.renders in
+pub renders_unique : (m : Mode) (t x out : List ℕ) (a b : ℕ) (k l : List ℕ) → RendersIn m t x out a k → RendersIn m t x out b l → (a ≡ b) × (k ≡ l)
+renders_unique m t x out a b k l f g =
+    let u = laws.renders_unique m t x out f.outcome g.outcome k l f.renders g.renders in
     (f.answers ∙ ap code u.0 ∙ sym g.answers, u.1)

@@ -12,9 +12,9 @@ abbrev pub all : (ℕ → Bool) → List ℕ → Bool
 all p [] = true
 all p (b ∷ bs) = p b && all p bs
 
-abbrev pub isNil : List ℕ → Bool
-isNil [] = true
-isNil (b ∷ bs) = false
+abbrev pub is_nil : List ℕ → Bool
+is_nil [] = true
+is_nil (b ∷ bs) = false
 
 -- a test that all pass, each that is among them passes
 pub each : (p : ℕ → Bool) (b : ℕ) (l : List ℕ) → all p l ≡ true → among b l ≡ true → p b ≡ true

@@ -23,12 +23,12 @@ module _ {A B : Type 0} (f : A → B) (fine : B) (same : (a b : A) → f a ≡ f
   first_some ((true, y) ∷ cs) a o e = same a y e
   first_some ((false, y) ∷ cs) a o e = first_some cs a o e
 
-  pub all-passed : (cs : List (Bool × A)) → fine ≡ first (within f cs) fine → AllPassed cs
-  all-passed [] e = tt
-  all-passed ((true, y) ∷ cs) e = absurd (apart y (sym e))
-  all-passed ((false, y) ∷ cs) e = (refl, all-passed cs e)
+  pub all_passed : (cs : List (Bool × A)) → fine ≡ first (within f cs) fine → AllPassed cs
+  all_passed [] e = tt
+  all_passed ((true, y) ∷ cs) e = absurd (apart y (sym e))
+  all_passed ((false, y) ∷ cs) e = (refl, all_passed cs e)
 
-  pub first-none : (cs : List (Bool × A)) (o : A) → fine ≡ first (within f cs) fine → first cs o ≡ o
-  first-none [] o e = refl
-  first-none ((true, y) ∷ cs) o e = absurd (apart y (sym e))
-  first-none ((false, y) ∷ cs) o e = first-none cs o e
+  pub first_none : (cs : List (Bool × A)) (o : A) → fine ≡ first (within f cs) fine → first cs o ≡ o
+  first_none [] o e = refl
+  first_none ((true, y) ∷ cs) o e = absurd (apart y (sym e))
+  first_none ((false, y) ∷ cs) o e = first_none cs o e

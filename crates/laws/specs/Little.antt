@@ -6,12 +6,12 @@ abbrev pub little : ℕ → ℕ → List ℕ
 little zero n = []
 little (suc k) n = n % 256 ∷ little k (n / 256)
 
-abbrev pub fromLittle : List ℕ → ℕ
-fromLittle [] = 0
-fromLittle (b ∷ bs) = b + 256 * fromLittle bs
+abbrev pub from_little : List ℕ → ℕ
+from_little [] = 0
+from_little (b ∷ bs) = b + 256 * from_little bs
 
 -- the number of the first four
-pub of_four : (s : List ℕ) → get_or s 0 0 + 256 * (get_or s 1 0 + 256 * (get_or s 2 0 + 256 * get_or s 3 0)) ≡ fromLittle (take 4 s)
+pub of_four : (s : List ℕ) → get_or s 0 0 + 256 * (get_or s 1 0 + 256 * (get_or s 2 0 + 256 * get_or s 3 0)) ≡ from_little (take 4 s)
 of_four [] = refl
 of_four (a ∷ []) = refl
 of_four (a ∷ b ∷ []) = refl

@@ -10,5 +10,5 @@ pub length_rest : (s : List ℕ) (k : ℕ) → length (take (length s - k) (drop
 length_rest s k = ap length (rest s k) ∙ length-drop k s
 
 -- w bytes are left
-pub left-of : (s : List ℕ) (k w : ℕ) → w ≤ length s - k → w ≤ length (take (length s - k) (drop k s))
-left-of s k w h = rw (length_rest s k) h
+pub left_of : (s : List ℕ) (k w : ℕ) → w ≤ length s - k → w ≤ length (take (length s - k) (drop k s))
+left_of s k w h = rw (length_rest s k) h

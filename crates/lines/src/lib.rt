@@ -1,6 +1,6 @@
 // What the replaying programs share: reading a case from standard input, and printing a line for it.
 ghost use Rattle.std.specs.Prelude.{◌≡◌, false, [], ◌∷◌, ◌+◌, ◌*◌, ◌^◌, ◌≤◌, ◌<◌, length};
-ghost use Rattle.laws.specs.Little.{fromLittle};
+ghost use Rattle.laws.specs.Little.{from_little};
 ghost use Rattle.io.specs.Counts.{IsPrefixLen};
 
 use libc::{STDIN_FILENO, STDOUT_FILENO};
@@ -20,7 +20,7 @@ const HEX: usize = 2 * BYTES;
 
 // The number that four bytes hold, the lowest first.
 pub fn word(a: u8, b: u8, c: u8, d: u8) -> usize
-    ensures { (result ≡ fromLittle (a ∷ b ∷ c ∷ d ∷ [])) × (result < 2 ^ 32) }
+    ensures { (result ≡ from_little (a ∷ b ∷ c ∷ d ∷ [])) × (result < 2 ^ 32) }
 {
     a as usize + 256 * (b as usize) + 65536 * (c as usize) + 16777216 * (d as usize)
 }

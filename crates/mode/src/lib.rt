@@ -1,6 +1,6 @@
 // What a caller may ask for beside 01 (02, vii and viii): options, as the bits of a number, and the mode that they stand for, handed on by value.
 ghost use Rattle.std.specs.Prelude.{◌≡◌};
-ghost use Rattle.mode.specs.Options.{isSqlite, editionOf, mode_of};
+ghost use Rattle.mode.specs.Options.{is_sqlite, edition_of, mode_of};
 
 // The options of 01 as it is.
 pub const NO_OPTIONS: u32 = 0;
@@ -26,7 +26,7 @@ pub struct Mode {
 
 // Whether an edition is SQLite's.
 pub fn sqlite(e: Edition) -> bool
-    ensures { result ≡ isSqlite e }
+    ensures { result ≡ is_sqlite e }
 {
     match e {
         Edition::Crate => false,
@@ -36,7 +36,7 @@ pub fn sqlite(e: Edition) -> bool
 
 // The edition that a number of options asks for: bit 1 is SQLite's.
 fn edition_in(options: u32) -> Edition
-    ensures { result ≡ editionOf options }
+    ensures { result ≡ edition_of options }
 {
     if options / BIT % BIT == 1 {
         return Edition::Sqlite;

@@ -6,7 +6,7 @@ use Prim.Native.String.{String}
 use Rattle.std.proofs.Math.Seq.{take-nil}
 use borrow.Author.Tests.{eq-eqb, ne_eqb, le-leb, lt-leb}
 use Rattle.mode.specs.declared.Edition.{Edition}
-use Rattle.record.specs.Record.{recordAt}
+use Rattle.record.specs.Record.{record_at}
 use Rattle.record.specs.declared.Record.{Record}
 use Rattle.grammar.specs.Kind.{NONE, LIST, TOKEN}
 use Rattle.grammar.specs.Shape.{Class, Shape, said, slot, commas, row, given, ◌·◌}
@@ -18,13 +18,13 @@ use Rattle.tokens.specs.Corners.{id}
 use Rattle.mode.specs.declared.Edition.TheVariants.{Crate}
 use Rattle.stream.specs.Stream.{Token}
 use Rattle.stream.specs.Sink as sink
-use Rattle.tokens.specs.Tokens.{Out, tokenOf, ofKind, rows, listed, placed, comma, means, node}
+use Rattle.tokens.specs.Tokens.{Out, token_of, of_kind, rows, listed, placed, comma, means, node}
 use Rattle.pen.specs.declared.Pen.{Pen}
-use Rattle.tokens.specs.Tokens.{inEdition}
+use Rattle.tokens.specs.Tokens.{in_edition}
 use Rattle.pen.specs.Pen.{Lent, source_of, source, Spot, Past, Puts, Says, Writes, Always}
-use Rattle.pen.specs.Laws.{puts-on}
+use Rattle.pen.specs.Laws.{puts_on}
 use Rattle.pen.specs.Rows.{opt}
-use Rattle.pen.specs.Places.{tokenAt, index, skipped, entered, optional}
+use Rattle.pen.specs.Places.{token_at, index, skipped, entered, optional}
 use Rattle.parts.specs.Runs.{SaidClause}
 
 -- ---- a part of the text
@@ -32,53 +32,53 @@ module _ (x : List ℕ) (a n : ℕ) where
   pub part_none : length x < a → [] ≡ take n (drop a x)
   part_none h = rw (drop_of_length-le x {i = a} (omega arith)) (sym (take-nil n))
 
-  pub part-rest : length x - a < n → take (length x - a) (drop a x) ≡ take n (drop a x)
-  part-rest h = rest x a ∙ sym (take_all n (drop a x) (simp length-drop (omega arith)))
+  pub part_rest : length x - a < n → take (length x - a) (drop a x) ≡ take n (drop a x)
+  part_rest h = rest x a ∙ sym (take_all n (drop a x) (simp length-drop (omega arith)))
 
-  pub part-whole : take (a + n - a) (drop a x) ≡ take n (drop a x)
-  part-whole = rw add-sub_cancel_left
+  pub part_whole : take (a + n - a) (drop a x) ≡ take n (drop a x)
+  part_whole = rw add-sub_cancel_left
 
 -- ---- what is lent, taken up whole
-pub taken-up : {t t' x x' w w' : List ℕ} {s : Shape} {a b : Spot} → t' ≡ t → x' ≡ x → w' ≡ w → Always (source t' x') w' s a b → Always (source t x) w s a b
-taken-up e f g h d r = rw (← e, ← f, ← g) (h d r)
+pub taken_up : {t t' x x' w w' : List ℕ} {s : Shape} {a b : Spot} → t' ≡ t → x' ≡ x → w' ≡ w → Always (source t' x') w' s a b → Always (source t x) w s a b
+taken_up e f g h d r = rw (← e, ← f, ← g) (h d r)
 
 -- ---- a record of one kind, or of another
-module _ {t w o : List ℕ} {k : Record} {p q : Pen} (x : List ℕ) (n : ℕ) (read : k ≡ recordAt t p.next) (past : Past t p q) where
-  pub of_other : (ts : Edition → List Token) → (k.kind ≡ n → ⊥) → (u : Edition) → Puts w (ofKind (inEdition t x u) n p.next (ts u)) (p, o) (q, o)
+module _ {t w o : List ℕ} {k : Record} {p q : Pen} (x : List ℕ) (n : ℕ) (read : k ≡ record_at t p.next) (past : Past t p q) where
+  pub of_other : (ts : Edition → List Token) → (k.kind ≡ n → ⊥) → (u : Edition) → Puts w (of_kind (in_edition t x u) n p.next (ts u)) (p, o) (q, o)
   of_other ts z u = rw (← read, ne_eqb k.kind n z) (skipped past x u)
 
   -- its tokens are given by what was read
-  pub of-this : {b : Spot} (f : Edition → Record → List Token) → k.kind ≡ n → (u : Edition) → Says w (f u k) (q, o) b → Puts w (ofKind (inEdition t x u) n p.next (f u (recordAt t p.next))) (p, o) b
-  of-this f z u h = rw (← read, eq-eqb k.kind n z, ← index past x u) (entered past h.puts)
+  pub of_this : {b : Spot} (f : Edition → Record → List Token) → k.kind ≡ n → (u : Edition) → Says w (f u k) (q, o) b → Puts w (of_kind (in_edition t x u) n p.next (f u (record_at t p.next))) (p, o) b
+  of_this f z u h = rw (← read, eq-eqb k.kind n z, ← index past x u) (entered past h.puts)
 
 -- a TOKEN, without a value and with one
-module _ {t w o : List ℕ} {k : Record} {p q : Pen} {b : Spot} (x : List ℕ) (read : k ≡ recordAt t p.next) (past : Past t p q) (z : k.kind ≡ TOKEN) where
-  a-token : {v : List ℕ} → v ≡ take k.len (drop k.start x) → Says w (record { kind = k.flags % 0x8000; value = sink.given (leb 0x8000 k.flags) v } ∷ []) (q, o) b
-      → (u : Edition) → Puts w (tokenAt (inEdition t x u) p.next) (p, o) b
-  unfolding tokenOf
-  a-token is h u = of-this x TOKEN read past (λ u k. tokenOf (inEdition t x u) k ∷ []) z u (rw is at h)
+module _ {t w o : List ℕ} {k : Record} {p q : Pen} {b : Spot} (x : List ℕ) (read : k ≡ record_at t p.next) (past : Past t p q) (z : k.kind ≡ TOKEN) where
+  a_token : {v : List ℕ} → v ≡ take k.len (drop k.start x) → Says w (record { kind = k.flags % 0x8000; value = sink.given (leb 0x8000 k.flags) v } ∷ []) (q, o) b
+      → (u : Edition) → Puts w (token_at (in_edition t x u) p.next) (p, o) b
+  unfolding token_of
+  a_token is h u = of_this x TOKEN read past (λ u k. token_of (in_edition t x u) k ∷ []) z u (rw is at h)
 
-  pub bare-token : k.flags < 0x8000 → Says w (record { kind = k.flags; value = sink.given false [] } ∷ []) (q, o) b → (u : Edition) → Puts w (tokenAt (inEdition t x u) p.next) (p, o) b
-  bare-token l h =
+  pub bare_token : k.flags < 0x8000 → Says w (record { kind = k.flags; value = sink.given false [] } ∷ []) (q, o) b → (u : Edition) → Puts w (token_at (in_edition t x u) p.next) (p, o) b
+  bare_token l h =
       let e : k.flags % 0x8000 ≡ k.flags = omega arith in
-      a-token refl (rw (e, lt-leb 0x8000 k.flags l) h)
+      a_token refl (rw (e, lt-leb 0x8000 k.flags l) h)
 
-  pub valued-token : {v : List ℕ} → 0x8000 ≤ k.flags → v ≡ take k.len (drop k.start x) → Says w (record { kind = k.flags % 0x8000; value = sink.given true v } ∷ []) (q, o) b
-      → (u : Edition) → Puts w (tokenAt (inEdition t x u) p.next) (p, o) b
-  valued-token l is h = a-token is (rw (le-leb 0x8000 k.flags l) h)
+  pub valued_token : {v : List ℕ} → 0x8000 ≤ k.flags → v ≡ take k.len (drop k.start x) → Says w (record { kind = k.flags % 0x8000; value = sink.given true v } ∷ []) (q, o) b
+      → (u : Edition) → Puts w (token_at (in_edition t x u) p.next) (p, o) b
+  valued_token l is h = a_token is (rw (le-leb 0x8000 k.flags l) h)
 
 -- ---- a LIST
-module _ {t w o : List ℕ} {k : Record} {p q : Pen} (x : List ℕ) (f : Edition → ℕ → Out) (sep : List Token) (read : k ≡ recordAt t p.next) (past : Past t p q) where
-  pub no-list : (k.kind ≡ LIST → ⊥) → (u : Edition) → Puts w (listed (inEdition t x u) (f u) sep p.next) (p, o) (q, o)
+module _ {t w o : List ℕ} {k : Record} {p q : Pen} (x : List ℕ) (f : Edition → ℕ → Out) (sep : List Token) (read : k ≡ record_at t p.next) (past : Past t p q) where
+  pub no_list : (k.kind ≡ LIST → ⊥) → (u : Edition) → Puts w (listed (in_edition t x u) (f u) sep p.next) (p, o) (q, o)
   unfolding listed
-  no-list z u = rw (← read, ne_eqb k.kind LIST z) (skipped past x u)
+  no_list z u = rw (← read, ne_eqb k.kind LIST z) (skipped past x u)
 
-  pub a-list-in : {b : Spot} → k.kind ≡ LIST → (u : Edition) → Puts w (rows (f u) [] sep k.kids q.next) (q, o) b → Puts w (listed (inEdition t x u) (f u) sep p.next) (p, o) b
+  pub a_list_in : {b : Spot} → k.kind ≡ LIST → (u : Edition) → Puts w (rows (f u) [] sep k.kids q.next) (q, o) b → Puts w (listed (in_edition t x u) (f u) sep p.next) (p, o) b
   unfolding listed
-  a-list-in z u h = rw (← read, z, ← index past x u) (entered past h)
+  a_list_in z u h = rw (← read, z, ← index past x u) (entered past h)
 
-  pub a-list : {b : Spot} → k.kind ≡ LIST → ((u : Edition) → Puts w (rows (f u) [] sep k.kids q.next) (q, o) b) → (u : Edition) → Puts w (listed (inEdition t x u) (f u) sep p.next) (p, o) b
-  a-list z h u = a-list-in z u (h u)
+  pub a_list : {b : Spot} → k.kind ≡ LIST → ((u : Edition) → Puts w (rows (f u) [] sep k.kids q.next) (q, o) b) → (u : Edition) → Puts w (listed (in_edition t x u) (f u) sep p.next) (p, o) b
+  a_list z h u = a_list_in z u (h u)
 
 -- with commas or with none
 pub either : {e : Lent} {w : List ℕ} {d : ℕ} {r : Record} {a b : Spot} (c : Class) (sep : Bool) → ((u : Edition) → Puts w (listed (source_of u e) (placed (source_of u e) (node (source_of u e) d) c) (opt sep comma) a.0.next) a b)
@@ -88,18 +88,18 @@ either c true h = record { puts = h }
 either c false h = record { puts = h }
 
 -- ---- TK_ID with a text and a RUN, unless that is NONE
-module _ {t w o : List ℕ} {k : Record} {p : Pen} (x : List ℕ) {v : List ℕ} (read : k ≡ recordAt t p.next) where
-  pub said-none : {q : Pen} → k.kind ≡ NONE → Past t p q → SaidClause (source t x) w v (p, o) (q, o)
-  said-none z past = record { puts = λ d u. rw (← read, z) (skipped past x u) }
+module _ {t w o : List ℕ} {k : Record} {p : Pen} (x : List ℕ) {v : List ℕ} (read : k ≡ record_at t p.next) where
+  pub said_none : {q : Pen} → k.kind ≡ NONE → Past t p q → SaidClause (source t x) w v (p, o) (q, o)
+  said_none z past = record { puts = λ d u. rw (← read, z) (skipped past x u) }
 
-  pub said-some : {b c : Spot} → (k.kind ≡ NONE → ⊥) → Says w (id v ∷ []) (p, o) b → Always (source t x) w (slot run) b c → SaidClause (source t x) w v (p, o) c
+  pub said_some : {b c : Spot} → (k.kind ≡ NONE → ⊥) → Says w (id v ∷ []) (p, o) b → Always (source t x) w (slot run) b c → SaidClause (source t x) w v (p, o) c
   unfolding means
-  said-some z h g =
-      record { puts = λ d u. rw (← read, ne_eqb k.kind NONE z) (puts-on (placed (inEdition t x u) (node (inEdition t x u) d) (maybe run)) h.puts ((optional (g d blank)).puts u)) }
+  said_some z h g =
+      record { puts = λ d u. rw (← read, ne_eqb k.kind NONE z) (puts_on (placed (in_edition t x u) (node (in_edition t x u) d) (maybe run)) h.puts ((optional (g d blank)).puts u)) }
 
-pub said-clause : {e : Lent} {w v : List ℕ} {d : ℕ} {r : Record} {a b : Spot} (s : String) → v ≡ ascii s → SaidClause e w v a b → Writes e w d r (given (said s · slot (maybe run))) a b
+pub said_clause : {e : Lent} {w v : List ℕ} {d : ℕ} {r : Record} {a b : Spot} (s : String) → v ≡ ascii s → SaidClause e w v a b → Writes e w d r (given (said s · slot (maybe run))) a b
 unfolding means
-said-clause {d = d} s h p = record { puts = λ u. rw (← h) (p.puts d u) }
+said_clause {d = d} s h p = record { puts = λ u. rw (← h) (p.puts d u) }
 
-pub said-clause-unique : (e : Lent) (w v : List ℕ) (a b c : Spot) → SaidClause e w v a b → SaidClause e w v a c → b ≡ c
-said-clause-unique e w v a b c p q = (p.puts 0 Crate).is ∙ sym (q.puts 0 Crate).is
+pub said_clause_unique : (e : Lent) (w v : List ℕ) (a b c : Spot) → SaidClause e w v a b → SaidClause e w v a c → b ≡ c
+said_clause_unique e w v a b c p q = (p.puts 0 Crate).is ∙ sym (q.puts 0 Crate).is

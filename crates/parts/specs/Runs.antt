@@ -3,7 +3,7 @@ use Rattle.std.specs.Prelude.{ℕ, List, [], ◌∷◌, Bool, cond, eqb}
 use Rattle.grammar.specs.Grammar.{run, maybe}
 use Rattle.mode.specs.declared.Edition.{Edition}
 use Rattle.grammar.specs.Kind.{NONE}
-use Rattle.spelling.specs.Token.{TK-SEMI}
+use Rattle.spelling.specs.Token.{TK_SEMI}
 use Rattle.tokens.specs.Corners.{valued, id, newline}
 use Rattle.tokens.specs.Tokens.{Source, Out, at, say, of, then, rows, listed, placed, comma, bracketed, node}
 use Rattle.pen.specs.Pen.{Lent, source_of, Spot, Puts}
@@ -15,7 +15,7 @@ Runs e w sep n a b = (d : ℕ) → RowOf e w d run sep n a b
 
 -- each with a `;` and a newline behind it
 abbrev pub ended : Source → ℕ → ℕ → Out
-ended e d k = then (placed e (node e d) run k) (say (valued TK-SEMI newline ∷ []))
+ended e d k = then (placed e (node e d) run k) (say (valued TK_SEMI newline ∷ []))
 
 abbrev pub Lines : Lent → List ℕ → ℕ → Spot → Spot → Type 0
 Lines e w n a b = (d : ℕ) (v : Edition) → Puts w (rows (ended (source_of v e) d) [] [] n a.0.next) a b

@@ -1,13 +1,13 @@
 // What fmt.rs's renderers share: runs and texts, lists of runs, parts that are there if a field is given or filled.
 ghost use Rattle.std.specs.Prelude.{◌≡◌, [], take, drop, cond};
 ghost use Rattle.grammar.specs.Shape.{word as word', when, slot, commas as commas', row, lines as lines', tuples as tuples', filled, ◌·◌};
-ghost use Rattle.grammar.specs.Grammar.{run as run', text as text', parens, clause as clause', on-conflict, if-not-exists};
-ghost use Rattle.spelling.specs.Token.{TK-IF, TK-EXISTS, TK-SEMI};
+ghost use Rattle.grammar.specs.Grammar.{run as run', text as text', parens, clause as clause', on_conflict as on_conflict', if_not_exists as if_not_exists'};
+ghost use Rattle.spelling.specs.Token.{TK_IF as TK_IF', TK_EXISTS as TK_EXISTS', TK_SEMI as TK_SEMI'};
 ghost use Rattle.tokens.specs.Tokens.{rows, comma as comma'};
 ghost use Rattle.mode.specs.declared.Edition.{Edition};
 ghost use Rattle.pen.specs.Pen.{source_of, source, Puts, Says, Always, Flag, Under};
 ghost use Rattle.pen.specs.Rows.{opt};
-ghost use Rattle.pen.specs.Places.{tokenAt};
+ghost use Rattle.pen.specs.Places.{token_at};
 ghost use Rattle.parts.specs.Runs.{Runs, Lines, Tuples, SaidClause};
 
 use grammar::kind::{LIST, NONE, RUN, TEXT, TOKEN};
@@ -36,7 +36,7 @@ pub fn part(text: &[u8], start: usize, len: usize) -> &[u8]
 
 // The next record, a TOKEN.
 fn token(p: Pen, out: &mut [u8], pool: &[u8], tree: &[u8], text: &[u8]) -> Pen
-    ensures { (v : Edition) → Puts pool.now (tokenAt (source_of v (source tree.now text.now)) p.next) (p, out.old) (result, out.new) }
+    ensures { (v : Edition) → Puts pool.now (token_at (source_of v (source tree.now text.now)) p.next) (p, out.old) (result, out.new) }
 {
     let r = record::read(tree, p.next);
     let q = pass(p, tree);
@@ -52,7 +52,7 @@ fn token(p: Pen, out: &mut [u8], pool: &[u8], tree: &[u8], text: &[u8]) -> Pen
 
 // So many TOKENs, one behind the other.
 fn tokens(p: Pen, out: &mut [u8], pool: &[u8], tree: &[u8], text: &[u8], n: u16) -> Pen
-    ensures { (v : Edition) → Puts pool.now (rows (tokenAt (source_of v (source tree.now text.now))) [] [] n p.next) (p, out.old) (result, out.new) }
+    ensures { (v : Edition) → Puts pool.now (rows (token_at (source_of v (source tree.now text.now))) [] [] n p.next) (p, out.old) (result, out.new) }
 {
     let mut q = p;
     let mut rest = n;
@@ -145,7 +145,7 @@ pub fn word_if(p: Pen, out: &mut [u8], pool: &[u8], on: bool, kind: u16) -> Pen
 
 // IF EXISTS if so.
 pub fn if_exists(p: Pen, out: &mut [u8], pool: &[u8], on: bool) -> Pen
-    ensures { Under on (λ bit. when bit (word' TK-IF · word' TK-EXISTS)) pool.now (p, out.old) (result, out.new) }
+    ensures { Under on (λ bit. when bit (word' TK_IF' · word' TK_EXISTS')) pool.now (p, out.old) (result, out.new) }
 {
     if on {
         let q = word(p, out, pool, TK_IF);
@@ -156,7 +156,7 @@ pub fn if_exists(p: Pen, out: &mut [u8], pool: &[u8], on: bool) -> Pen
 
 // IF NOT EXISTS if so.
 pub fn if_not_exists(p: Pen, out: &mut [u8], pool: &[u8], on: bool) -> Pen
-    ensures { Under on if-not-exists pool.now (p, out.old) (result, out.new) }
+    ensures { Under on if_not_exists' pool.now (p, out.old) (result, out.new) }
 {
     if on {
         let q = word(p, out, pool, TK_IF);
@@ -253,7 +253,7 @@ fn ended(p: Pen, out: &mut [u8], pool: &[u8], tree: &[u8], text: &[u8], n: u16) 
 
 // The next record, a LIST of RUNs, each with a `;` and a newline behind it.
 pub fn lines(p: Pen, out: &mut [u8], pool: &[u8], tree: &[u8], text: &[u8]) -> Pen
-    ensures { Always (source tree.now text.now) pool.now (lines' run' TK-SEMI) (p, out.old) (result, out.new) }
+    ensures { Always (source tree.now text.now) pool.now (lines' run' TK_SEMI') (p, out.old) (result, out.new) }
 {
     let r = record::read(tree, p.next);
     let q = pass(p, tree);
@@ -349,7 +349,7 @@ pub fn said_clause(
 
 // ON CONFLICT and a RUN, unless that is NONE.
 pub fn on_conflict(p: Pen, out: &mut [u8], pool: &[u8], tree: &[u8], text: &[u8]) -> Pen
-    ensures { Always (source tree.now text.now) pool.now on-conflict (p, out.old) (result, out.new) }
+    ensures { Always (source tree.now text.now) pool.now on_conflict' (p, out.old) (result, out.new) }
 {
     let r = record::read(tree, p.next);
     if r.kind == NONE {

@@ -17,24 +17,24 @@ first_bit false true false = refl
 first_bit false false true = refl
 first_bit false false false = refl
 
-pub second-bit : (a b c : Bool) → b ≡ flagged 1 (bits a b c)
+pub second_bit : (a b c : Bool) → b ≡ flagged 1 (bits a b c)
 unfolding flagged
-second-bit true true true = refl
-second-bit true true false = refl
-second-bit true false true = refl
-second-bit true false false = refl
-second-bit false true true = refl
-second-bit false true false = refl
-second-bit false false true = refl
-second-bit false false false = refl
+second_bit true true true = refl
+second_bit true true false = refl
+second_bit true false true = refl
+second_bit true false false = refl
+second_bit false true true = refl
+second_bit false true false = refl
+second_bit false false true = refl
+second_bit false false false = refl
 
-pub third-bit : (a b c : Bool) → c ≡ flagged 2 (bits a b c)
+pub third_bit : (a b c : Bool) → c ≡ flagged 2 (bits a b c)
 unfolding flagged
-third-bit true true true = refl
-third-bit true true false = refl
-third-bit true false true = refl
-third-bit true false false = refl
-third-bit false true true = refl
-third-bit false true false = refl
-third-bit false false true = refl
-third-bit false false false = refl
+third_bit true true true = refl
+third_bit true true false = refl
+third_bit true false true = refl
+third_bit true false false = refl
+third_bit false true true = refl
+third_bit false true false = refl
+third_bit false false true = refl
+third_bit false false false = refl

@@ -2,14 +2,14 @@
 use Rattle.std.specs.Prelude.{ℕ, ◌+◌, min, ◌≡◌, List, [], ◌∷◌, Bool}
 use Prim.Native.String.{String}
 use Rattle.laws.specs.Text.{ascii}
-use Rattle.spelling.specs.Table.{spellingIn}
+use Rattle.spelling.specs.Table.{spelling_in}
 use Rattle.mode.specs.declared.Edition.{Edition}
 use Rattle.stream.specs.Stream.{Token}
 use Rattle.stream.specs.Sink.{State, step}
 use Rattle.record.specs.Record.{count}
 use Rattle.record.specs.declared.Record.{Record}
 use Rattle.grammar.specs.Shape.{Shape}
-use Rattle.tokens.specs.Tokens.{Source, inEdition, Out, say, flagged, means, node}
+use Rattle.tokens.specs.Tokens.{Source, in_edition, Out, say, flagged, means, node}
 use Rattle.pen.specs.declared.Pen.{Pen}
 
 -- the editions that a renderer's promise is for: every one, or the one that it is told
@@ -28,7 +28,7 @@ pub record Lent : Type 0 where
   pub scope : Scope
 
 abbrev pub source_of : Edition → Lent → Source
-source_of v e = inEdition e.tree e.text (pick e.scope v)
+source_of v e = in_edition e.tree e.text (pick e.scope v)
 
 abbrev pub lent : List ℕ → List ℕ → Scope → Lent
 lent t x g = record { tree = t; text = x; scope = g }
@@ -36,8 +36,8 @@ lent t x g = record { tree = t; text = x; scope = g }
 abbrev pub source : List ℕ → List ℕ → Lent
 source t x = lent t x every
 
-abbrev pub sourceIn : List ℕ → List ℕ → Edition → Lent
-sourceIn t x v = lent t x (only v)
+abbrev pub source_in : List ℕ → List ℕ → Edition → Lent
+source_in t x v = lent t x (only v)
 
 -- a pen and the bytes of the output
 abbrev pub Spot : Type 0
@@ -51,7 +51,7 @@ pub record Past (t : List ℕ) (p q : Pen) : Type 0 where
 -- tokens one after the other; w is the pool of spellings that is lent
 unfoldable pub emit : List ℕ → State → List Token → State
 emit w st [] = st
-emit w st (t ∷ ts) = emit w (step st t.kind (spellingIn w t.kind) t.value) ts
+emit w st (t ∷ ts) = emit w (step st t.kind (spelling_in w t.kind) t.value) ts
 
 unfoldable pub put : List ℕ → Out → Spot → Spot
 put w o a =

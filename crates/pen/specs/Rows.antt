@@ -5,7 +5,7 @@ use Rattle.std.proofs.Common.{not-suc-le-zero, sub-one}
 use Rattle.stream.specs.Stream.{Token}
 use Rattle.tokens.specs.Tokens.{Out, say, then, rows}
 use Rattle.pen.specs.Pen.{Spot, emit, put, Puts, Says}
-use Rattle.pen.specs.Laws.{puts-on}
+use Rattle.pen.specs.Laws.{puts_on}
 
 -- tokens if so
 abbrev pub opt : Bool → List Token → List Token
@@ -23,11 +23,11 @@ module _ {w : List ℕ} {a : Spot} (f : ℕ → Out) (lead sep : List Token) (n 
   row_first {b} {c} h p q = by n h
     where
       one : Puts w (then (say lead a.0.next) f) a c
-      one = puts-on f p.puts q
+      one = puts_on f p.puts q
 
       by : (m : ℕ) → 0 < m → put w (rows f sep sep (m - 1) c.0.next) c ≡ put w (rows f lead sep m a.0.next) a
       by zero l = absurd (not-suc-le-zero l)
-      by (suc m) l = rw sub-one (puts-on (rows f sep sep m) one (record { is = refl })).is
+      by (suc m) l = rw sub-one (puts_on (rows f sep sep m) one (record { is = refl })).is
 
   -- and is done where none is left
   pub row_done : {s : Spot} {o : Out} → n ≤ 0 → put w (rows f lead sep n a.0.next) a ≡ put w o s → Puts w o s a

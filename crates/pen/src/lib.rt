@@ -6,7 +6,7 @@ ghost use Rattle.stream.specs.Sink.{given as valueIf, count};
 ghost use Rattle.grammar.specs.Shape.{word as word', line as line'};
 ghost use Rattle.tokens.specs.Corners.{id, bare as bare', valued as valued'};
 ghost use Rattle.pen.specs.Pen.{Says, Anywhere, Past};
-ghost use Rattle.pen.specs.Quick.{ledTo, ledOut, alone as alone'};
+ghost use Rattle.pen.specs.Quick.{led_to, led_out, alone as alone'};
 
 use spelling::token::{TK_FLOAT, TK_ID, TK_INTEGER, TK_VARIABLE};
 use store::Laid;
@@ -46,7 +46,7 @@ fn counted(s: Sink, n: usize) -> usize
 // A space, unless the sink has one, and v: they are stored where there is room for them all, and counted where there is none.
 // Where there is room for some, and where v has no bytes, nothing need be done: `append` does it.
 fn lay(s: Sink, out: &mut [u8], v: &[u8]) -> Laid
-    ensures { (result ≡ ledTo s (length out.old) v.now) × (out.new ≡ ledOut s out.old v.now) }
+    ensures { (result ≡ led_to s (length out.old) v.now) × (out.new ≡ led_out s out.old v.now) }
 {
     if out.len() <= s.at {
         return Laid::To(counted(s, v.len()));

@@ -5,15 +5,15 @@ use Rattle.std.proofs.Math.Seq.{take-suc}
 use Rattle.position.specs.Position.{newline, lines, next, column}
 
 -- ---- two parts
-pub lines-append : (a b : List ℕ) → lines (a ++ b) ≡ lines a + lines b
+pub lines_append : (a b : List ℕ) → lines (a ++ b) ≡ lines a + lines b
 unfolding lines
-lines-append [] b = omega arith
-lines-append (x ∷ a) b = omega (arith, lines-append a b)
+lines_append [] b = omega arith
+lines_append (x ∷ a) b = omega (arith, lines_append a b)
 
-pub column-append : (c : ℕ) (a b : List ℕ) → column c (a ++ b) ≡ column (column c a) b
+pub column_append : (c : ℕ) (a b : List ℕ) → column c (a ++ b) ≡ column (column c a) b
 unfolding column
-column-append c [] b = refl
-column-append c (x ∷ a) b = column-append (next c x) a b
+column_append c [] b = refl
+column_append c (x ∷ a) b = column_append (next c x) a b
 
 -- ---- neither is more than the bytes
 at_most_one : (x : ℕ) → newline x ≤ 1
@@ -23,10 +23,10 @@ at_most_one x = by (eqb x 0x0A)
     by true = omega arith
     by false = omega arith
 
-pub lines-length : (s : List ℕ) → lines s ≤ length s
+pub lines_length : (s : List ℕ) → lines s ≤ length s
 unfolding lines
-lines-length [] = omega arith
-lines-length (x ∷ s) = omega (arith, lines-length s, at_most_one x)
+lines_length [] = omega arith
+lines_length (x ∷ s) = omega (arith, lines_length s, at_most_one x)
 
 one_more : (c x : ℕ) → next c x ≤ c + 1
 one_more c x = by (eqb x 0x0A)
@@ -35,16 +35,16 @@ one_more c x = by (eqb x 0x0A)
     by true = omega arith
     by false = omega arith
 
-pub column-length : (c : ℕ) (s : List ℕ) → column c s ≤ c + length s
+pub column_length : (c : ℕ) (s : List ℕ) → column c s ≤ c + length s
 unfolding column
-column-length c [] = omega arith
-column-length c (x ∷ s) = omega (arith, column-length (next c x) s, one_more c x)
+column_length c [] = omega arith
+column_length c (x ∷ s) = omega (arith, column_length (next c x) s, one_more c x)
 
 -- ---- no newline: the column goes on
-pub column-on : (c : ℕ) (s : List ℕ) → lines s ≡ 0 → column c s ≡ c + length s
+pub column_on : (c : ℕ) (s : List ℕ) → lines s ≡ 0 → column c s ≡ c + length s
 unfolding column lines
-column-on c [] e = omega arith
-column-on c (x ∷ s) e = by (eqb x 0x0A) refl (column-on (c + 1) s)
+column_on c [] e = omega arith
+column_on c (x ∷ s) e = by (eqb x 0x0A) refl (column_on (c + 1) s)
   where
     by : (t : Bool) → eqb x 0x0A ≡ t → (lines s ≡ 0 → column (c + 1) s ≡ c + 1 + length s) → column (next c x) s ≡ c + length (x ∷ s)
     by true q f = let z : newline x ≡ 1 = rw q in absurd (omega arith)
@@ -53,10 +53,10 @@ column-on c (x ∷ s) e = by (eqb x 0x0A) refl (column-on (c + 1) s)
         rw q (omega (arith, f (omega arith)))
 
 -- some: where they began does not matter
-pub column-anew : (c d : ℕ) (s : List ℕ) → (lines s ≡ 0 → ⊥) → column c s ≡ column d s
+pub column_anew : (c d : ℕ) (s : List ℕ) → (lines s ≡ 0 → ⊥) → column c s ≡ column d s
 unfolding column lines
-column-anew c d [] h = absurd (h refl)
-column-anew c d (x ∷ s) h = by (eqb x 0x0A) refl (column-anew (next c x) (next d x) s)
+column_anew c d [] h = absurd (h refl)
+column_anew c d (x ∷ s) h = by (eqb x 0x0A) refl (column_anew (next c x) (next d x) s)
   where
     by : (t : Bool) → eqb x 0x0A ≡ t → ((lines s ≡ 0 → ⊥) → column (next c x) s ≡ column (next d x) s) → column (next c x) s ≡ column (next d x) s
     by true q f = rw q
@@ -65,23 +65,23 @@ column-anew c d (x ∷ s) h = by (eqb x 0x0A) refl (column-anew (next c x) (next
         f (λ e. h (omega arith))
 
 -- "the bytes since the last newline": those behind a newline, if there is none among them
-pub column-behind : (c : ℕ) (a s : List ℕ) → lines s ≡ 0 → column c (a ++ (0x0A ∷ s)) ≡ length s
+pub column_behind : (c : ℕ) (a s : List ℕ) → lines s ≡ 0 → column c (a ++ (0x0A ∷ s)) ≡ length s
 unfolding column
-column-behind c a s e = column-append c a (0x0A ∷ s) ∙ column-on 0 s e ∙ omega arith
+column_behind c a s e = column_append c a (0x0A ∷ s) ∙ column_on 0 s e ∙ omega arith
 
 -- ---- a byte more
 module _ (s : List ℕ) (i : ℕ) (h : i < length s) where
   pub lines_more : lines (take (i + 1) s) ≡ lines (take i s) + newline (get_or s i 0)
   unfolding lines
-  lines_more = rw (add-one, take-suc s i 0, lines-append (take i s) (get_or s i 0 ∷ [])) (omega arith)
+  lines_more = rw (add-one, take-suc s i 0, lines_append (take i s) (get_or s i 0 ∷ [])) (omega arith)
 
-  pub column-more : column 0 (take (i + 1) s) ≡ next (column 0 (take i s)) (get_or s i 0)
+  pub column_more : column 0 (take (i + 1) s) ≡ next (column 0 (take i s)) (get_or s i 0)
   unfolding column
-  column-more = rw (add-one i, take-suc s i 0, column-append 0 (take i s) (get_or s i 0 ∷ []))
+  column_more = rw (add-one i, take-suc s i 0, column_append 0 (take i s) (get_or s i 0 ∷ []))
 
   -- and neither leaves the bytes
-  pub lines-within : lines (take i s) + newline (get_or s i 0) ≤ length s
-  lines-within = omega (arith, lines_more, lines-length (take (i + 1) s), length-take-le (i + 1) s (omega arith))
+  pub lines_within : lines (take i s) + newline (get_or s i 0) ≤ length s
+  lines_within = omega (arith, lines_more, lines_length (take (i + 1) s), length-take-le (i + 1) s (omega arith))
 
-  pub column-within : column 0 (take i s) + 1 ≤ length s
-  column-within = omega (arith, column-length 0 (take i s), length-take-le i s (omega arith))
+  pub column_within : column 0 (take i s) + 1 ≤ length s
+  column_within = omega (arith, column_length 0 (take i s), length-take-le i s (omega arith))

@@ -4,10 +4,10 @@ ghost use Rattle.std.specs.Prelude.{◌≡◌, false, ◌||◌, [], ◌++◌, le
 ghost use Rattle.spelling.specs.Spelling.{spelling};
 ghost use Rattle.store.specs.Laid.{lead, room_for};
 ghost use Rattle.stream.specs.Stream.{leaves};
-ghost use Rattle.append.specs.Append.{news, tokenOf, number_of, present as present'};
+ghost use Rattle.append.specs.Append.{news, token_of, number_of, present as present'};
 ghost use Rattle.laws.specs.Among.{among};
-ghost use Rattle.blank.specs.Blank.{allBlank};
-ghost use Rattle.quick.specs.Quick.{otherKinds, alone as alone', marked as marked', tightMarks, openingMarks, fewMay, manyMay, wordMay, Comes};
+ghost use Rattle.blank.specs.Blank.{all_blank as all_blank'};
+ghost use Rattle.quick.specs.Quick.{other_kinds, alone as alone', marked as marked', tight_marks, opening_marks, few_may, many_may, word_may, Comes};
 
 use append::{LONGEST, PRESENT, Stream, number_of, present};
 use spelling::token::{
@@ -42,7 +42,7 @@ pub enum Quick {
 
 // Whether a kind is one of those that are written by their value alone, and are less common than TK_ID.
 fn other(kind: u16) -> bool
-    ensures { result ≡ among kind otherKinds }
+    ensures { result ≡ among kind other_kinds }
 {
     (kind == TK_STRING)
         | ((kind == TK_INTEGER)
@@ -67,7 +67,7 @@ fn alone(token: u16) -> bool
 
 // A plain value alone is laid, where there is room for it.
 fn value_laid(rec: Stream, out: &mut [u8], value: &[u8]) -> Quick
-    ensures { Comes (room_for rec.count (length out.old) value.now) rec out.old (lead rec.spaced ++ value.now) (allBlank value.now) result out.new }
+    ensures { Comes (room_for rec.count (length out.old) value.now) rec out.old (lead rec.spaced ++ value.now) (all_blank' value.now) result out.new }
 {
     let n = value.len();
     let at = rec.count;
@@ -86,7 +86,7 @@ fn value_laid(rec: Stream, out: &mut [u8], value: &[u8]) -> Quick
 
 // A token that is a plain value alone, of few bytes, is laid, where there is room for it.
 pub fn value_alone(rec: Stream, out: &mut [u8], token: u16, value: &[u8]) -> Quick
-    ensures { Comes (fewMay rec (length out.old) token value.now) rec out.old (news rec token value.now) (leaves rec.spaced (tokenOf token value.now)) result out.new }
+    ensures { Comes (few_may rec (length out.old) token value.now) rec out.old (news rec token value.now) (leaves rec.spaced (token_of token value.now)) result out.new }
 {
     if !alone(token) {
         return Quick::Not;
@@ -99,7 +99,7 @@ pub fn value_alone(rec: Stream, out: &mut [u8], token: u16, value: &[u8]) -> Qui
 
 // And one of more bytes.
 pub fn long_alone(rec: Stream, out: &mut [u8], token: u16, value: &[u8]) -> Quick
-    ensures { Comes (manyMay rec (length out.old) token value.now) rec out.old (news rec token value.now) (leaves rec.spaced (tokenOf token value.now)) result out.new }
+    ensures { Comes (many_may rec (length out.old) token value.now) rec out.old (news rec token value.now) (leaves rec.spaced (token_of token value.now)) result out.new }
 {
     if LONGEST < value.len() {
         return Quick::Not;
@@ -123,7 +123,7 @@ fn marked(set: u64, b: u8) -> bool
 // A mark, a spelling of one byte, is laid, where there is room for it.
 fn mark(rec: Stream, out: &mut [u8], word: &[u8]) -> Quick
     requires { length word.now ≡ 1 }
-    ensures { Comes (room_for rec.count (length out.old) word.now) rec out.old (lead (rec.spaced || marked' tightMarks (get_or word.now 0 0)) ++ word.now) (marked' openingMarks (get_or word.now 0 0)) result out.new }
+    ensures { Comes (room_for rec.count (length out.old) word.now) rec out.old (lead (rec.spaced || marked' tight_marks (get_or word.now 0 0)) ++ word.now) (marked' opening_marks (get_or word.now 0 0)) result out.new }
 {
     let b = word[0];
     let l = store::lay_all(out, rec.count, rec.spaced | marked(TIGHT, b), word);
@@ -139,7 +139,7 @@ fn mark(rec: Stream, out: &mut [u8], word: &[u8]) -> Quick
 // A spelling is laid, where there is room for it: word is that of a token with no value.
 fn bare(rec: Stream, out: &mut [u8], token: u16, word: &[u8]) -> Quick
     requires { (word.now ≡ spelling (number_of token)) × (present' token ≡ false) }
-    ensures { Comes (room_for rec.count (length out.old) word.now) rec out.old (news rec token []) (leaves rec.spaced (tokenOf token [])) result out.new }
+    ensures { Comes (room_for rec.count (length out.old) word.now) rec out.old (news rec token []) (leaves rec.spaced (token_of token [])) result out.new }
 {
     if word.len() == 1 {
         return mark(rec, out, word);
@@ -153,7 +153,7 @@ fn bare(rec: Stream, out: &mut [u8], token: u16, word: &[u8]) -> Quick
 
 // A token with no value that is its spelling alone is laid, where there is room for it.
 pub fn word_alone(rec: Stream, out: &mut [u8], token: u16) -> Quick
-    ensures { Comes (wordMay rec (length out.old) token) rec out.old (news rec token []) (leaves rec.spaced (tokenOf token [])) result out.new }
+    ensures { Comes (word_may rec (length out.old) token) rec out.old (news rec token []) (leaves rec.spaced (token_of token [])) result out.new }
 {
     if present(token) {
         return Quick::Not;

@@ -3,26 +3,26 @@ use Rattle.std.specs.Prelude.{ℕ, zero, suc, ◌+◌, ◌-◌, ◌≤◌, ◌�
 use Rattle.std.proofs.Common.{arith, not-suc-le-zero, sym, ap, subst, ◌∙◌, append_assoc, length-append}
 use Rattle.std.proofs.Math.Seq.{take-append_seam, drop-append_seam}
 use Rattle.laws.specs.Among.{among, all}
-use Rattle.reading.specs.Bytes.{wordByte, blanks, exes}
+use Rattle.reading.specs.Bytes.{word_byte, blanks, exes}
 use Rattle.reading.specs.Number.{Taken, taken, unclosed, after, takes, number}
 use Rattle.reading.specs.Lexeme.{Kind, Word, Number, Quoted, Blob, Variable, Operator, Mark}
-use Rattle.reading.specs.Reading.{operatorByte, Start, blank, mark, quote, digits, word, variable, operator, nothing, start, closing, opened, blobbed, Read, lexeme, finish, failure, answer, read, Lexed, Cuts, ended, failed, next}
+use Rattle.reading.specs.Reading.{operator_byte, Start, blank, mark, quote, digits, word, variable, operator, nothing, start, closing, opened, blobbed, Read, lexeme, finish, failure, answer, read, Lexed, Cuts, ended, failed, next}
 use Rattle.reading.specs.Readable.{Readable}
-use Rattle.reading.specs.Once.{cut-once}
+use Rattle.reading.specs.Once.{cut_once}
 use Rattle.reading.specs.Demand3.{gives_back}
 use Rattle.stream.specs.Stream.{Token, text}
 use Rattle.reader.specs.Reader.{number as number_of_lem, end, stop, GivesOf, Gives}
-use Rattle.reader.specs.Splits.{splits, splits-after, takes-splits, closing-splits, blobbed-splits, number-splits}
-use Rattle.reader.specs.Sorts.{blank-begins}
+use Rattle.reader.specs.Splits.{splits, splits_after, takes_splits, closing_splits, blobbed_splits, number_splits}
+use Rattle.reader.specs.Sorts.{blank_begins}
 
 -- ---- no two outcomes satisfy the contract
-unique-of : (x : Read) (n k s k' s' : ℕ) (r r' : List ℕ) → GivesOf x n k s r → GivesOf x n k' s' r' → (k ≡ k') × ((s ≡ s') × (r ≡ r'))
-unique-of (lexeme κ w u) n k s k' s' r r' g h = (g.0 ∙ sym h.0, (omega (arith, g.1.0, h.1.0), g.1.1 ∙ sym h.1.1))
-unique-of finish n k s k' s' r r' g h = (g.0 ∙ sym h.0, (g.1.0 ∙ sym h.1.0, g.1.1 ∙ sym h.1.1))
-unique-of (failure u) n k s k' s' r r' g h = (g.0 ∙ sym h.0, (omega (arith, g.1.0, h.1.0), g.1.1 ∙ sym h.1.1))
+unique_of : (x : Read) (n k s k' s' : ℕ) (r r' : List ℕ) → GivesOf x n k s r → GivesOf x n k' s' r' → (k ≡ k') × ((s ≡ s') × (r ≡ r'))
+unique_of (lexeme κ w u) n k s k' s' r r' g h = (g.0 ∙ sym h.0, (omega (arith, g.1.0, h.1.0), g.1.1 ∙ sym h.1.1))
+unique_of finish n k s k' s' r r' g h = (g.0 ∙ sym h.0, (g.1.0 ∙ sym h.1.0, g.1.1 ∙ sym h.1.1))
+unique_of (failure u) n k s k' s' r r' g h = (g.0 ∙ sym h.0, (omega (arith, g.1.0, h.1.0), g.1.1 ∙ sym h.1.1))
 
 pub unique : (t : List ℕ) (k s k' s' : ℕ) (r r' : List ℕ) → Gives t k s r → Gives t k' s' r' → (k ≡ k') × ((s ≡ s') × (r ≡ r'))
-unique t k s k' s' r r' g h = unique-of (read t) (length t) k s k' s' r r' g h
+unique t k s k' s' r r' g h = unique_of (read t) (length t) k s k' s' r r' g h
 
 -- ---- what is read stands in the text behind blanks, and the rest behind it
 pub record Stands (v u t : List ℕ) : Type 0 where
@@ -53,20 +53,20 @@ stands [] = record { front = []; blanks = refl; is = refl }
 stands (b ∷ t) = by (start b) refl (stands t)
   where
     begun : (κ : Kind) (x : Taken) → splits x t → StandsIn (answer κ (b ∷ t) (after (b ∷ []) x)) (b ∷ t)
-    begun κ x h = here κ (b ∷ t) (after (b ∷ []) x) (splits-after (b ∷ []) t x h)
+    begun κ x h = here κ (b ∷ t) (after (b ∷ []) x) (splits_after (b ∷ []) t x h)
 
-    in-word : (c : Bool) → StandsIn (cond c (answer Blob (b ∷ t) (after (b ∷ []) (blobbed t))) (answer Word (b ∷ t) (after (b ∷ []) (takes wordByte t)))) (b ∷ t)
-    in-word true = begun Blob (blobbed t) (blobbed-splits t)
-    in-word false = begun Word (takes wordByte t) (takes-splits wordByte t)
+    in_word : (c : Bool) → StandsIn (cond c (answer Blob (b ∷ t) (after (b ∷ []) (blobbed t))) (answer Word (b ∷ t) (after (b ∷ []) (takes word_byte t)))) (b ∷ t)
+    in_word true = begun Blob (blobbed t) (blobbed_splits t)
+    in_word false = begun Word (takes word_byte t) (takes_splits word_byte t)
 
     by : (s : Start) → start b ≡ s → StandsIn (read t) t → StandsIn (read (b ∷ t)) (b ∷ t)
-    by blank e h = rw (e, read) (behind b (read t) t (blank-begins b e) h)
+    by blank e h = rw (e, read) (behind b (read t) t (blank_begins b e) h)
     by mark e h = rw (e, read) (record { front = []; blanks = refl; is = refl })
-    by quote e h = rw (e, read) (begun Quoted (closing b t) (closing-splits b t))
-    by digits e h = rw (e, read) (here Number (b ∷ t) (number b t) (number-splits b t))
-    by word e h = rw (e, read) (in-word (among b exes && opened t))
-    by variable e h = rw (e, read) (begun Variable (takes wordByte t) (takes-splits wordByte t))
-    by operator e h = rw (e, read) (begun Operator (takes operatorByte t) (takes-splits operatorByte t))
+    by quote e h = rw (e, read) (begun Quoted (closing b t) (closing_splits b t))
+    by digits e h = rw (e, read) (here Number (b ∷ t) (number b t) (number_splits b t))
+    by word e h = rw (e, read) (in_word (among b exes && opened t))
+    by variable e h = rw (e, read) (begun Variable (takes word_byte t) (takes_splits word_byte t))
+    by operator e h = rw (e, read) (begun Operator (takes operator_byte t) (takes_splits operator_byte t))
     by nothing e h = rw (e, read) (record { front = []; blanks = refl; is = refl })
 
 -- ---- the rest is the unread tail: the text from a place on
@@ -81,8 +81,8 @@ rest_of t n k s r (lexeme κ w u) f g = rw g.1.1 (tail_of f.front w u t f.is)
 rest_of t n k s r finish f g = rw g.1.1 (tail_of f.front [] [] t f.is)
 rest_of t n k s r (failure u) f g = rw g.1.1 (tail_of f.front [] u t f.is)
 
-pub rest-is : (t : List ℕ) (k s : ℕ) (r : List ℕ) → Gives t k s r → drop (length t - length r) t ≡ r
-rest-is t k s r g = rest_of t (length t) k s r (read t) (stands t) g
+pub rest_is : (t : List ℕ) (k s : ℕ) (r : List ℕ) → Gives t k s r → drop (length t - length r) t ≡ r
+rest_is t k s r g = rest_of t (length t) k s r (read t) (stands t) g
 
 -- ---- the loop: a call on the text, and then on what it handed back
 -- the bytes of a text from a place on, up to a rest of it
@@ -91,7 +91,7 @@ between t s r = take (length t - length r - s) (drop s t)
 
 pub data Loop : List ℕ → List Lexed → List ℕ → Type 0 where
   to_the_end : {t r : List ℕ} (s : ℕ) → Gives t end s r → Loop t [] r
-  to-a-failure : {t r : List ℕ} (s : ℕ) → Gives t stop s r → Loop t [] r
+  to_a_failure : {t r : List ℕ} (s : ℕ) → Gives t stop s r → Loop t [] r
   on : {t r u : List ℕ} {ls : List Lexed} (s : ℕ) (κ : Kind) → Gives t (number_of_lem κ) s r → Loop r ls u → Loop t ((κ, between t s r) ∷ ls) u
 
 -- a number of a kind is that of no other, nor of the end or a failure
@@ -123,25 +123,25 @@ kind_of (suc (suc (suc (suc (suc zero))))) = Variable
 kind_of (suc (suc (suc (suc (suc (suc zero)))))) = Operator
 kind_of (suc (suc (suc (suc (suc (suc (suc n))))))) = Mark
 
-kind-is : (κ : Kind) → κ ≡ kind_of (number_of_lem κ)
-kind-is Word = refl
-kind-is Number = refl
-kind-is Quoted = refl
-kind-is Blob = refl
-kind-is Variable = refl
-kind-is Operator = refl
-kind-is Mark = refl
+kind_is : (κ : Kind) → κ ≡ kind_of (number_of_lem κ)
+kind_is Word = refl
+kind_is Number = refl
+kind_is Quoted = refl
+kind_is Blob = refl
+kind_is Variable = refl
+kind_is Operator = refl
+kind_is Mark = refl
 
 -- what a call gave tells what was read
-told-end : (x : Read) (n s : ℕ) (r : List ℕ) → GivesOf x n end s r → (x ≡ finish) × (r ≡ [])
-told-end (lexeme κ w u) n s r g = absurd (not-suc-le-zero {n = 0} (omega (arith, least κ, g.0)))
-told-end finish n s r g = (refl, g.1.1)
-told-end (failure u) n s r g = absurd (not-suc-le-zero {n = 0} (omega (arith, g.0)))
+told_end : (x : Read) (n s : ℕ) (r : List ℕ) → GivesOf x n end s r → (x ≡ finish) × (r ≡ [])
+told_end (lexeme κ w u) n s r g = absurd (not-suc-le-zero {n = 0} (omega (arith, least κ, g.0)))
+told_end finish n s r g = (refl, g.1.1)
+told_end (failure u) n s r g = absurd (not-suc-le-zero {n = 0} (omega (arith, g.0)))
 
-told-stop : (x : Read) (n s : ℕ) (r : List ℕ) → GivesOf x n stop s r → x ≡ failure r
-told-stop (lexeme κ w u) n s r g = absurd (not-suc-le-zero {n = 0} (omega (arith, most κ, g.0)))
-told-stop finish n s r g = absurd (not-suc-le-zero {n = 0} (omega (arith, g.0)))
-told-stop (failure u) n s r g = ap failure (sym g.1.1)
+told_stop : (x : Read) (n s : ℕ) (r : List ℕ) → GivesOf x n stop s r → x ≡ failure r
+told_stop (lexeme κ w u) n s r g = absurd (not-suc-le-zero {n = 0} (omega (arith, most κ, g.0)))
+told_stop finish n s r g = absurd (not-suc-le-zero {n = 0} (omega (arith, g.0)))
+told_stop (failure u) n s r g = ap failure (sym g.1.1)
 
 between_is : (t w r : List ℕ) (s : ℕ) → Stands w r t → s + length w + length r ≡ length t → between t s r ≡ w
 between_is t w r s f e =
@@ -150,36 +150,36 @@ between_is t w r s f e =
     let many : length t - length r - length f.front ≡ length w = omega arith in
     rw (at, many, ← f.is, drop-append_seam f.front (w ++ r), take-append_seam w r)
 
-told-lexeme : (κ : Kind) (t : List ℕ) (s : ℕ) (r : List ℕ) (x : Read) → StandsIn x t → GivesOf x (length t) (number_of_lem κ) s r → x ≡ lexeme κ (between t s r) r
-told-lexeme κ t s r (lexeme λ' w u) f g =
-    let same : κ ≡ λ' = kind-is κ ∙ ap kind_of g.0 ∙ sym (kind-is λ') in
+told_lexeme : (κ : Kind) (t : List ℕ) (s : ℕ) (r : List ℕ) (x : Read) → StandsIn x t → GivesOf x (length t) (number_of_lem κ) s r → x ≡ lexeme κ (between t s r) r
+told_lexeme κ t s r (lexeme λ' w u) f g =
+    let same : κ ≡ λ' = kind_is κ ∙ ap kind_of g.0 ∙ sym (kind_is λ') in
     rw (same, g.1.1, between_is t w u s f g.1.0)
-told-lexeme κ t s r finish f g = absurd (not-suc-le-zero {n = 0} (omega (arith, least κ, g.0)))
-told-lexeme κ t s r (failure u) f g = absurd (not-suc-le-zero {n = 0} (omega (arith, most κ, g.0)))
+told_lexeme κ t s r finish f g = absurd (not-suc-le-zero {n = 0} (omega (arith, least κ, g.0)))
+told_lexeme κ t s r (failure u) f g = absurd (not-suc-le-zero {n = 0} (omega (arith, most κ, g.0)))
 
 -- ---- "any other text gives its lexemes to the end if nothing fails, else the lexemes before the first failure", and the rest starts there
-pub loop-cuts : (t : List ℕ) (ls : List Lexed) (u : List ℕ) → Loop t ls u → Cuts t ls u
-loop-cuts t _ u (to_the_end s g) = let h = told-end (read t) (length t) s u g in subst (λ (y : List ℕ). Cuts t [] y) (sym h.1) (ended h.0)
-loop-cuts t _ u (to-a-failure s g) = failed (told-stop (read t) (length t) s u g)
-loop-cuts t _ u (on {r = r} {ls = ls} s κ g l) = next (told-lexeme κ t s r (read t) (stands t) g) (loop-cuts r ls u l)
+pub loop_cuts : (t : List ℕ) (ls : List Lexed) (u : List ℕ) → Loop t ls u → Cuts t ls u
+loop_cuts t _ u (to_the_end s g) = let h = told_end (read t) (length t) s u g in subst (λ (y : List ℕ). Cuts t [] y) (sym h.1) (ended h.0)
+loop_cuts t _ u (to_a_failure s g) = failed (told_stop (read t) (length t) s u g)
+loop_cuts t _ u (on {r = r} {ls = ls} s κ g l) = next (told_lexeme κ t s r (read t) (stands t) g) (loop_cuts r ls u l)
 
 fits : (x : Read) (v u t : List ℕ) → Stands v u t → length v + length u ≤ length t
 fits x v u t f = omega (arith, length-append f.front (v ++ u), length-append v u, ap length f.is)
 
-pub cuts-loop : (t : List ℕ) (ls : List Lexed) (u : List ℕ) → Cuts t ls u → Loop t ls u
-cuts-loop t _ _ (ended e) = to_the_end {t = t} {r = []} (length t) (rw e (refl, (refl, refl)))
-cuts-loop t _ u (failed e) =
+pub cuts_loop : (t : List ℕ) (ls : List Lexed) (u : List ℕ) → Cuts t ls u → Loop t ls u
+cuts_loop t _ _ (ended e) = to_the_end {t = t} {r = []} (length t) (rw e (refl, (refl, refl)))
+cuts_loop t _ u (failed e) =
     let f : Stands [] u t = rw e at (stands t) in
-    to-a-failure {t = t} {r = u} (length t - length u) (rw e (refl, (omega (arith, fits (read t) [] u t f), refl)))
-cuts-loop t _ u (next {w = w} {r = r} {κ = κ} {ls = ls} e c) =
+    to_a_failure {t = t} {r = u} (length t - length u) (rw e (refl, (omega (arith, fits (read t) [] u t f), refl)))
+cuts_loop t _ u (next {w = w} {r = r} {κ = κ} {ls = ls} e c) =
     let f : Stands w r t = rw e at (stands t) in
     let s : ℕ = length t - length r - length w in
     let whole : s + length w + length r ≡ length t = omega (arith, fits (read t) w r t f) in
-    subst (λ (v : List ℕ). Loop t ((κ, v) ∷ ls) u) (between_is t w r s f whole) (on {t = t} {r = r} s κ (rw e (refl, (whole, refl))) (cuts-loop r ls u c))
+    subst (λ (v : List ℕ). Loop t ((κ, v) ∷ ls) u) (between_is t w r s f whole) (on {t = t} {r = r} s κ (rw e (refl, (whole, refl))) (cuts_loop r ls u c))
 
 -- ---- "Cut from end to end, a readable stream's text gives its spellings", and nothing else
-pub readable-loop : (ts : List Token) (ls : List Lexed) → Readable ts ls → Loop (text true ts) ls []
-readable-loop ts ls r = cuts-loop (text true ts) ls [] (gives_back ts ls r)
+pub readable_loop : (ts : List Token) (ls : List Lexed) → Readable ts ls → Loop (text true ts) ls []
+readable_loop ts ls r = cuts_loop (text true ts) ls [] (gives_back ts ls r)
 
-pub loop-once : (t : List ℕ) (ls ms : List Lexed) (u v : List ℕ) → Loop t ls u → Loop t ms v → (ls ≡ ms) × (u ≡ v)
-loop-once t ls ms u v l m = cut-once t ls ms u v (loop-cuts t ls u l) (loop-cuts t ms v m)
+pub loop_once : (t : List ℕ) (ls ms : List Lexed) (u v : List ℕ) → Loop t ls u → Loop t ms v → (ls ≡ ms) × (u ≡ v)
+loop_once t ls ms u v l m = cut_once t ls ms u v (loop_cuts t ls u l) (loop_cuts t ms v m)

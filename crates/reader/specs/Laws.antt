@@ -7,13 +7,13 @@ use Rattle.reading.specs.Number.{Taken, taken, unclosed, after, takes}
 use Rattle.laws.specs.Among.{among}
 use Rattle.reading.specs.Bytes.{blanks}
 use Rattle.reading.specs.Reading.{through, closing, opened, read}
-use Rattle.reading.specs.Taking.{closing-other, closing-last, closing-doubled}
+use Rattle.reading.specs.Taking.{closing_other, closing_last, closing_doubled}
 use Rattle.reader.specs.Places.{past, bare}
-use Rattle.reader.specs.Sorts.{begins-blank}
+use Rattle.reader.specs.Sorts.{begins_blank}
 
 -- the byte at a place, and the others
-pub byte-then : (t : List ℕ) (i : ℕ) → i < length t → drop i t ≡ get_or t i 0 ∷ drop (i + 1) t
-byte-then t i h = rw (add-one i) (drop-cons t i 0 h)
+pub byte_then : (t : List ℕ) (i : ℕ) → i < length t → drop i t ≡ get_or t i 0 ∷ drop (i + 1) t
+byte_then t i h = rw (add-one i) (drop-cons t i 0 h)
 
 pub past_after : (at : ℕ) (v : List ℕ) (x : Taken) → past at (after v x) ≡ past (at + length v) x
 past_after at v (taken w r) = omega (arith, length-append v w)
@@ -23,75 +23,75 @@ past_one : (i b : ℕ) (x : Taken) → past i (after (b ∷ []) x) ≡ past (i +
 past_one i b x = past_after i (b ∷ []) x
 
 -- ---- bytes of a sort
-pub takes-on : (p : ℕ → Bool) (t : List ℕ) (i : ℕ) → i < length t → p (get_or t i 0) ≡ true → past i (takes p (drop i t)) ≡ past (i + 1) (takes p (drop (i + 1) t))
+pub takes_on : (p : ℕ → Bool) (t : List ℕ) (i : ℕ) → i < length t → p (get_or t i 0) ≡ true → past i (takes p (drop i t)) ≡ past (i + 1) (takes p (drop (i + 1) t))
 unfolding takes
-takes-on p t i h e = rw (byte-then t i h, e) (past_one i (get_or t i 0) (takes p (drop (i + 1) t)))
+takes_on p t i h e = rw (byte_then t i h, e) (past_one i (get_or t i 0) (takes p (drop (i + 1) t)))
 
-pub takes-off : (p : ℕ → Bool) (t : List ℕ) (i : ℕ) → i < length t → p (get_or t i 0) ≡ false → past i (takes p (drop i t)) ≡ i
+pub takes_off : (p : ℕ → Bool) (t : List ℕ) (i : ℕ) → i < length t → p (get_or t i 0) ≡ false → past i (takes p (drop i t)) ≡ i
 unfolding takes
-takes-off p t i h e = rw (byte-then t i h, e) (omega arith)
+takes_off p t i h e = rw (byte_then t i h, e) (omega arith)
 
-pub takes-end : (p : ℕ → Bool) (t : List ℕ) (i : ℕ) → length t ≤ i → past i (takes p (drop i t)) ≡ i
+pub takes_end : (p : ℕ → Bool) (t : List ℕ) (i : ℕ) → length t ≤ i → past i (takes p (drop i t)) ≡ i
 unfolding takes
-takes-end p t i h = rw (drop_of_length-le t h) (omega arith)
+takes_end p t i h = rw (drop_of_length-le t h) (omega arith)
 
 -- ---- a quotation
-pub closing-on : (q : ℕ) (t : List ℕ) (i : ℕ) → i < length t → (get_or t i 0 ≡ q → ⊥) → past i (closing q (drop i t)) ≡ past (i + 1) (closing q (drop (i + 1) t))
-closing-on q t i h n =
-    rw (byte-then t i h, closing-other q (get_or t i 0) (drop (i + 1) t) (ne_eqb (get_or t i 0) q n)) (past_one i (get_or t i 0) (closing q (drop (i + 1) t)))
+pub closing_on : (q : ℕ) (t : List ℕ) (i : ℕ) → i < length t → (get_or t i 0 ≡ q → ⊥) → past i (closing q (drop i t)) ≡ past (i + 1) (closing q (drop (i + 1) t))
+closing_on q t i h n =
+    rw (byte_then t i h, closing_other q (get_or t i 0) (drop (i + 1) t) (ne_eqb (get_or t i 0) q n)) (past_one i (get_or t i 0) (closing q (drop (i + 1) t)))
 
-pub closing-twice : (q : ℕ) (t : List ℕ) (i : ℕ) → i + 1 < length t → get_or t i 0 ≡ q → get_or t (i + 1) 0 ≡ q → past i (closing q (drop i t)) ≡ past (i + 2) (closing q (drop (i + 2) t))
-closing-twice q t i h e f =
+pub closing_twice : (q : ℕ) (t : List ℕ) (i : ℕ) → i + 1 < length t → get_or t i 0 ≡ q → get_or t (i + 1) 0 ≡ q → past i (closing q (drop i t)) ≡ past (i + 2) (closing q (drop (i + 2) t))
+closing_twice q t i h e f =
     let two : i + 1 + 1 ≡ i + 2 = omega arith in
-    rw (byte-then t i (omega arith), byte-then t (i + 1) h, two, e, f, closing-doubled q (drop (i + 2) t)) (past_after i (q ∷ q ∷ []) (closing q (drop (i + 2) t)))
+    rw (byte_then t i (omega arith), byte_then t (i + 1) h, two, e, f, closing_doubled q (drop (i + 2) t)) (past_after i (q ∷ q ∷ []) (closing q (drop (i + 2) t)))
 
-pub closing-once : (q : ℕ) (t : List ℕ) (i : ℕ) → i + 1 < length t → get_or t i 0 ≡ q → (get_or t (i + 1) 0 ≡ q → ⊥) → past i (closing q (drop i t)) ≡ i + 1
-closing-once q t i h e n =
-    rw (byte-then t i (omega arith), byte-then t (i + 1) h, e, closing-last q (get_or t (i + 1) 0 ∷ drop (i + 1 + 1) t) (rw (ne_eqb (get_or t (i + 1) 0) q n)))
+pub closing_once : (q : ℕ) (t : List ℕ) (i : ℕ) → i + 1 < length t → get_or t i 0 ≡ q → (get_or t (i + 1) 0 ≡ q → ⊥) → past i (closing q (drop i t)) ≡ i + 1
+closing_once q t i h e n =
+    rw (byte_then t i (omega arith), byte_then t (i + 1) h, e, closing_last q (get_or t (i + 1) 0 ∷ drop (i + 1 + 1) t) (rw (ne_eqb (get_or t (i + 1) 0) q n)))
 
-pub closing-at-end : (q : ℕ) (t : List ℕ) (i : ℕ) → i < length t → length t ≤ i + 1 → get_or t i 0 ≡ q → past i (closing q (drop i t)) ≡ i + 1
-closing-at-end q t i h l e = rw (byte-then t i h, drop_of_length-le t l, e, closing-last q [] refl)
+pub closing_at_end : (q : ℕ) (t : List ℕ) (i : ℕ) → i < length t → length t ≤ i + 1 → get_or t i 0 ≡ q → past i (closing q (drop i t)) ≡ i + 1
+closing_at_end q t i h l e = rw (byte_then t i h, drop_of_length-le t l, e, closing_last q [] refl)
 
-pub closing-never : (q : ℕ) (t : List ℕ) (i : ℕ) → length t ≤ i → past i (closing q (drop i t)) ≡ 0
+pub closing_never : (q : ℕ) (t : List ℕ) (i : ℕ) → length t ≤ i → past i (closing q (drop i t)) ≡ 0
 unfolding closing
-closing-never q t i h = rw (drop_of_length-le t h)
+closing_never q t i h = rw (drop_of_length-le t h)
 
 -- ---- a blob
-pub through-on : (t : List ℕ) (i : ℕ) → i < length t → (get_or t i 0 ≡ apostrophe → ⊥) → past i (through apostrophe (drop i t)) ≡ past (i + 1) (through apostrophe (drop (i + 1) t))
+pub through_on : (t : List ℕ) (i : ℕ) → i < length t → (get_or t i 0 ≡ apostrophe → ⊥) → past i (through apostrophe (drop i t)) ≡ past (i + 1) (through apostrophe (drop (i + 1) t))
 unfolding through
-through-on t i h n = rw (byte-then t i h, ne_eqb (get_or t i 0) apostrophe n) (past_one i (get_or t i 0) (through apostrophe (drop (i + 1) t)))
+through_on t i h n = rw (byte_then t i h, ne_eqb (get_or t i 0) apostrophe n) (past_one i (get_or t i 0) (through apostrophe (drop (i + 1) t)))
 
 pub through_here : (t : List ℕ) (i : ℕ) → i < length t → get_or t i 0 ≡ apostrophe → past i (through apostrophe (drop i t)) ≡ i + 1
 unfolding through
-through_here t i h e = rw (byte-then t i h, e)
+through_here t i h e = rw (byte_then t i h, e)
 
-pub through-never : (t : List ℕ) (i : ℕ) → length t ≤ i → past i (through apostrophe (drop i t)) ≡ 0
+pub through_never : (t : List ℕ) (i : ℕ) → length t ≤ i → past i (through apostrophe (drop i t)) ≡ 0
 unfolding through
-through-never t i h = rw (drop_of_length-le t h)
+through_never t i h = rw (drop_of_length-le t h)
 
-pub opened-not : (t : List ℕ) (i : ℕ) → length t ≤ i → opened (drop i t) ≡ false
-opened-not t i h = rw (drop_of_length-le t h)
+pub opened_not : (t : List ℕ) (i : ℕ) → length t ≤ i → opened (drop i t) ≡ false
+opened_not t i h = rw (drop_of_length-le t h)
 
-pub opened-next : (t : List ℕ) (i : ℕ) → i < length t → opened (drop i t) ≡ eqb (get_or t i 0) apostrophe
-opened-next t i h = rw (byte-then t i h)
+pub opened_next : (t : List ℕ) (i : ℕ) → i < length t → opened (drop i t) ≡ eqb (get_or t i 0) apostrophe
+opened_next t i h = rw (byte_then t i h)
 
 pub opened_inside : (t : List ℕ) (i : ℕ) → opened (drop i t) ≡ true → i < length t
 opened_inside t i h = by (leb (length t) i) refl
   where
     by : (c : Bool) → leb (length t) i ≡ c → i < length t
-    by true e = absurd (false≢true (sym (opened-not t i (leb-true (length t) i e)) ∙ h))
+    by true e = absurd (false≢true (sym (opened_not t i (leb-true (length t) i e)) ∙ h))
     by false e = leb-false (length t) i e
 
 -- ---- blanks
-pub blank-on : (t : List ℕ) (i : ℕ) → i < length t → among (get_or t i 0) blanks ≡ true → read (drop i t) ≡ read (drop (i + 1) t)
+pub blank_on : (t : List ℕ) (i : ℕ) → i < length t → among (get_or t i 0) blanks ≡ true → read (drop i t) ≡ read (drop (i + 1) t)
 unfolding read
-blank-on t i h e = rw (byte-then t i h, begins-blank (get_or t i 0) e, read)
+blank_on t i h e = rw (byte_then t i h, begins_blank (get_or t i 0) e, read)
 
-pub bare-here : (t : List ℕ) (i : ℕ) → i < length t → among (get_or t i 0) blanks ≡ false → bare (drop i t)
-bare-here t i h e = rw (byte-then t i h) e
+pub bare_here : (t : List ℕ) (i : ℕ) → i < length t → among (get_or t i 0) blanks ≡ false → bare (drop i t)
+bare_here t i h e = rw (byte_then t i h) e
 
-pub not-blank : (t : List ℕ) (i : ℕ) → i < length t → bare (drop i t) → among (get_or t i 0) blanks ≡ false
-not-blank t i h b = rw (byte-then t i h) at b
+pub not_blank : (t : List ℕ) (i : ℕ) → i < length t → bare (drop i t) → among (get_or t i 0) blanks ≡ false
+not_blank t i h b = rw (byte_then t i h) at b
 
-pub bare-end : (t : List ℕ) (i : ℕ) → length t ≤ i → bare (drop i t)
-bare-end t i h = rw (drop_of_length-le t h) tt
+pub bare_end : (t : List ℕ) (i : ℕ) → length t ≤ i → bare (drop i t)
+bare_end t i h = rw (drop_of_length-le t h) tt

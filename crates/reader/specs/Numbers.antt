@@ -5,8 +5,8 @@ use Rattle.std.proofs.Math.Seq.{drop-append_seam}
 use Rattle.reading.specs.Bytes.{digit, dot}
 use Rattle.reading.specs.Number.{Taken, taken, unclosed, after, takes, pointed, number}
 use Rattle.reader.specs.Places.{past}
-use Rattle.reader.specs.Laws.{byte-then, past_after}
-use Rattle.reader.specs.Splits.{splits, takes-splits}
+use Rattle.reader.specs.Laws.{byte_then, past_after}
+use Rattle.reader.specs.Splits.{splits, takes_splits}
 
 -- bytes of a sort are never left open
 record Some (x : Taken) : Type 0 where
@@ -14,10 +14,10 @@ record Some (x : Taken) : Type 0 where
   rest : List ℕ
   is : x ≡ taken word rest
 
-takes-some : (p : ℕ → Bool) (t : List ℕ) → Some (takes p t)
+takes_some : (p : ℕ → Bool) (t : List ℕ) → Some (takes p t)
 unfolding takes
-takes-some p [] = record { word = []; rest = []; is = refl }
-takes-some p (b ∷ t) = by (p b) (takes-some p t)
+takes_some p [] = record { word = []; rest = []; is = refl }
+takes_some p (b ∷ t) = by (p b) (takes_some p t)
   where
     by : (c : Bool) → Some (takes p t) → Some (cond c (after (b ∷ []) (takes p t)) (taken [] (b ∷ t)))
     by true s = record { word = b ∷ s.word; rest = s.rest; is = rw s.is }
@@ -31,8 +31,8 @@ pub record Taking (p : ℕ → Bool) (t : List ℕ) (i : ℕ) : Type 0 where
 
 pub taking : (p : ℕ → Bool) (t : List ℕ) (i : ℕ) → i ≤ length t → Taking p t i
 taking p t i l =
-    let s = takes-some p (drop i t) in
-    let h : s.word ++ s.rest ≡ drop i t = rw s.is at (takes-splits p (drop i t)) in
+    let s = takes_some p (drop i t) in
+    let h : s.word ++ s.rest ≡ drop i t = rw s.is at (takes_splits p (drop i t)) in
     let behind : s.rest ≡ drop (i + length s.word) t = sym (drop-append_seam s.word s.rest) ∙ (rw h (drop-drop (length s.word) i t)) in
     record {
       word = s.word;
@@ -40,8 +40,8 @@ taking p t i l =
       inside = omega (arith, ap length h, length-append s.word s.rest, length-drop i t);
     }
 
-pub takes-inside : (p : ℕ → Bool) (t : List ℕ) (i e : ℕ) → i ≤ length t → e ≡ past i (takes p (drop i t)) → e ≤ length t
-takes-inside p t i e l h = let s = taking p t i l in rw (h, s.is) s.inside
+pub takes_inside : (p : ℕ → Bool) (t : List ℕ) (i e : ℕ) → i ≤ length t → e ≡ past i (takes p (drop i t)) → e ≤ length t
+takes_inside p t i e l h = let s = taking p t i l in rw (h, s.is) s.inside
 
 -- a number is its first digit, the digits behind it, and what a dot adds to them
 number_is : (t : List ℕ) (at : ℕ) → at < length t → (s : Taking digit t (at + 1)) → (e : ℕ) → e ≡ at + 1 + length s.word
@@ -50,16 +50,16 @@ unfolding number
 number_is t at l s e h = rw (s.is, h)
 
 -- no dot with a digit behind it
-pub number-whole : (t : List ℕ) (at e : ℕ) → at < length t → e ≡ past (at + 1) (takes digit (drop (at + 1) t))
+pub number_whole : (t : List ℕ) (at e : ℕ) → at < length t → e ≡ past (at + 1) (takes digit (drop (at + 1) t))
     → ((v : List ℕ) → pointed (taken v (drop e t)) ≡ taken v (drop e t)) → e ≡ past at (number (get_or t at 0) (drop (at + 1) t))
-number-whole t at e l h none =
+number_whole t at e l h none =
     let s = taking digit t (at + 1) (omega arith) in
     let place : e ≡ at + 1 + length s.word = h ∙ ap (past (at + 1)) s.is in
     rw (number_is t at l s e place, none (get_or t at 0 ∷ s.word)) (omega arith)
 
-pub no-dot-left : (t : List ℕ) (e : ℕ) → e ≤ length t → length t ≤ e + 1 → (v : List ℕ) → pointed (taken v (drop e t)) ≡ taken v (drop e t)
+pub no_dot_left : (t : List ℕ) (e : ℕ) → e ≤ length t → length t ≤ e + 1 → (v : List ℕ) → pointed (taken v (drop e t)) ≡ taken v (drop e t)
 unfolding pointed
-no-dot-left t e l h v = by (drop e t) (omega (arith, length-drop e t))
+no_dot_left t e l h v = by (drop e t) (omega (arith, length-drop e t))
   where
     by : (r : List ℕ) → length r ≤ 1 → pointed (taken v r) ≡ taken v r
     by [] n = refl
@@ -67,21 +67,21 @@ no-dot-left t e l h v = by (drop e t) (omega (arith, length-drop e t))
     by (b ∷ c ∷ r) n = absurd (not-suc-le-zero {n = 0} (omega arith))
 
 two_then : (t : List ℕ) (e : ℕ) → e + 1 < length t → drop e t ≡ get_or t e 0 ∷ get_or t (e + 1) 0 ∷ drop (e + 1 + 1) t
-two_then t e h = byte-then t e (omega arith) ∙ rw (byte-then t (e + 1) h)
+two_then t e h = byte_then t e (omega arith) ∙ rw (byte_then t (e + 1) h)
 
-pub no-dot : (t : List ℕ) (e : ℕ) → e + 1 < length t → (eqb (get_or t e 0) dot && digit (get_or t (e + 1) 0)) ≡ false → (v : List ℕ) → pointed (taken v (drop e t)) ≡ taken v (drop e t)
+pub no_dot : (t : List ℕ) (e : ℕ) → e + 1 < length t → (eqb (get_or t e 0) dot && digit (get_or t (e + 1) 0)) ≡ false → (v : List ℕ) → pointed (taken v (drop e t)) ≡ taken v (drop e t)
 unfolding pointed
-no-dot t e h n v = rw (two_then t e h, n)
+no_dot t e h n v = rw (two_then t e h, n)
 
 -- a dot and a digit
-pub number-dotted : (t : List ℕ) (at e f : ℕ) → at < length t → e ≡ past (at + 1) (takes digit (drop (at + 1) t)) → e + 1 < length t
+pub number_dotted : (t : List ℕ) (at e f : ℕ) → at < length t → e ≡ past (at + 1) (takes digit (drop (at + 1) t)) → e + 1 < length t
     → get_or t e 0 ≡ dot → digit (get_or t (e + 1) 0) ≡ true → f ≡ past (e + 1) (takes digit (drop (e + 1) t)) → f ≡ past at (number (get_or t at 0) (drop (at + 1) t))
 unfolding pointed
-number-dotted t at e f l h m d g k =
+number_dotted t at e f l h m d g k =
     let s = taking digit t (at + 1) (omega arith) in
     let place : e ≡ at + 1 + length s.word = h ∙ ap (past (at + 1)) s.is in
     let v : List ℕ = get_or t at 0 ∷ s.word in
     let x : Taken = takes digit (drop (e + 1) t) in
     let is-dot : (eqb (get_or t e 0) dot && digit (get_or t (e + 1) 0)) ≡ true = rw (eq-eqb (get_or t e 0) dot d, g) in
-    let behind : pointed (taken v (drop e t)) ≡ after v (after (get_or t e 0 ∷ []) x) = rw (two_then t e m, is-dot, byte-then t (e + 1) m) in
+    let behind : pointed (taken v (drop e t)) ≡ after v (after (get_or t e 0 ∷ []) x) = rw (two_then t e m, is-dot, byte_then t (e + 1) m) in
     rw (number_is t at l s e place, behind, past_after at v (after (get_or t e 0 ∷ []) x), past_after (at + length v) (get_or t e 0 ∷ []) x) (k ∙ ap (λ (i : ℕ). past i x) (omega arith))

@@ -3,7 +3,7 @@ use Rattle.std.specs.Prelude.{ℕ, ◌+◌, ◌*◌, ◌≤◌, ◌<◌, ◌≡�
 use Rattle.std.proofs.Common.{arith, ap}
 use Rattle.reading.specs.Lexeme.{Kind, Word, Number, Quoted, Blob, Variable, Operator, Mark}
 use Rattle.reading.specs.Reading.{Read, lexeme, finish, failure, read}
-use Rattle.reading.specs.Once.{under, read-shorter}
+use Rattle.reading.specs.Once.{under, read_shorter}
 use Rattle.reader.specs.Reader.{number, end, stop, GivesOf, Gives}
 
 inside_of : (x : Read) (n k s : ℕ) (r : List ℕ) → GivesOf x n k s r → s + length r ≤ n
@@ -27,10 +27,10 @@ going_on Variable = refl
 going_on Operator = refl
 going_on Mark = refl
 
-fewer-of : (x : Read) (n k s : ℕ) (r : List ℕ) → GivesOf x n k s r → under x n → 2 * length r + going k < 2 * n + 1
-fewer-of (lexeme κ w u) n k s r g h = rw (g.0, g.1.1, going_on κ) (omega arith)
-fewer-of finish n k s r g h = rw (g.0, g.1.1) (omega arith)
-fewer-of (failure u) n k s r g h = rw (g.0, g.1.1) (omega (arith, g.1.0))
+fewer_of : (x : Read) (n k s : ℕ) (r : List ℕ) → GivesOf x n k s r → under x n → 2 * length r + going k < 2 * n + 1
+fewer_of (lexeme κ w u) n k s r g h = rw (g.0, g.1.1, going_on κ) (omega arith)
+fewer_of finish n k s r g h = rw (g.0, g.1.1) (omega arith)
+fewer_of (failure u) n k s r g h = rw (g.0, g.1.1) (omega (arith, g.1.0))
 
 pub fewer : (t : List ℕ) (k s : ℕ) (r : List ℕ) → Gives t k s r → 2 * length r + going k < 2 * length t + 1
-fewer t k s r g = fewer-of (read t) (length t) k s r g (read-shorter t)
+fewer t k s r g = fewer_of (read t) (length t) k s r g (read_shorter t)

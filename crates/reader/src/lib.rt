@@ -1,9 +1,9 @@
 // One lexeme of a text, by the reading rule (01, section 5; 02, iii): its kind, where it starts, and the rest of the text behind it.
 ghost use Rattle.std.specs.Prelude.{◌≡◌, ◌+◌, ◌≤◌, ◌<◌, length, drop, get_or, false, ◌&&◌};
 ghost use Rattle.laws.specs.Among.{among};
-ghost use Rattle.reading.specs.Bytes.{digit as digit', wordFirst, wordByte, blanks, variables, quotes, marks, exes, apostrophe};
+ghost use Rattle.reading.specs.Bytes.{digit as digit', word_first as word_first', word_byte as word_byte', blanks, variables, quotes, marks, exes, apostrophe};
 ghost use Rattle.reading.specs.Number.{takes, number as number'};
-ghost use Rattle.reading.specs.Reading.{operatorByte, through, closing, opened, read as read'};
+ghost use Rattle.reading.specs.Reading.{operator_byte as operator_byte', through, closing, opened, read as read'};
 ghost use Rattle.reader.specs.Reader.{Gives};
 ghost use Rattle.reader.specs.Places.{letter as letter', past, closed as closed', Skips, Found, FoundAt};
 
@@ -93,7 +93,7 @@ fn letter(b: u8) -> bool
 
 // Whether a byte begins a word.
 fn word_first(b: u8) -> bool
-    ensures { result ≡ wordFirst b }
+    ensures { result ≡ word_first' b }
 {
     if letter(b) {
         return true;
@@ -103,7 +103,7 @@ fn word_first(b: u8) -> bool
 
 // Whether a byte goes on with a word.
 fn word_byte(b: u8) -> bool
-    ensures { result ≡ wordByte b }
+    ensures { result ≡ word_byte' b }
 {
     if letter(b) {
         return true;
@@ -127,7 +127,7 @@ fn blob_first(b: u8) -> bool
 
 // Whether a byte occurs in an operator.
 fn operator_byte(b: u8) -> bool
-    ensures { result ≡ operatorByte b }
+    ensures { result ≡ operator_byte' b }
 {
     (b == b'+')
         | ((b == b'-')
@@ -158,7 +158,7 @@ fn skip_blanks(text: &[u8]) -> usize
 // Where the word bytes from a place on end.
 fn word_end(text: &[u8], at: usize) -> usize
     requires { at ≤ length text.now }
-    ensures { result ≡ past at (takes wordByte (drop at text.now)) }
+    ensures { result ≡ past at (takes word_byte' (drop at text.now)) }
 {
     let mut i = at;
     while i < text.len() {
@@ -173,7 +173,7 @@ fn word_end(text: &[u8], at: usize) -> usize
 // Where the bytes of operators from a place on end.
 fn operator_end(text: &[u8], at: usize) -> usize
     requires { at ≤ length text.now }
-    ensures { result ≡ past at (takes operatorByte (drop at text.now)) }
+    ensures { result ≡ past at (takes operator_byte' (drop at text.now)) }
 {
     let mut i = at;
     while i < text.len() {

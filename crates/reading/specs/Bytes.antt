@@ -6,16 +6,16 @@ use Rattle.laws.specs.Text.{ascii}
 unfoldable pub digit : ℕ → Bool
 digit b = among b (ascii "0123456789")
 
-unfoldable pub hexDigit : ℕ → Bool
-hexDigit b = among b (ascii "0123456789ABCDEFabcdef")
+unfoldable pub hex_digit : ℕ → Bool
+hex_digit b = among b (ascii "0123456789ABCDEFabcdef")
 
 -- "an ASCII letter, _ or byte from 80 (hex)"
-unfoldable pub wordFirst : ℕ → Bool
-wordFirst b = (leb 0x41 b && leb b 0x5A) || ((leb 0x61 b && leb b 0x7A) || (among b (ascii "_") || leb 0x80 b))
+unfoldable pub word_first : ℕ → Bool
+word_first b = (leb 0x41 b && leb b 0x5A) || ((leb 0x61 b && leb b 0x7A) || (among b (ascii "_") || leb 0x80 b))
 
 -- "then those, digits or $"
-unfoldable pub wordByte : ℕ → Bool
-wordByte b = wordFirst b || (digit b || among b (ascii "$"))
+unfoldable pub word_byte : ℕ → Bool
+word_byte b = word_first b || (digit b || among b (ascii "$"))
 
 -- "spaces and newlines"
 abbrev pub blanks : List ℕ

@@ -3,11 +3,11 @@
 use Rattle.std.specs.Prelude.{ℕ, ◌≡◌, List, [], map, true}
 use Rattle.std.proofs.Common.{ap, subst, sym}
 use Rattle.stream.specs.Stream.{Token, text}
-use Rattle.tokens.specs.Tokens.{Source, tokensOf, text_of}
+use Rattle.tokens.specs.Tokens.{Source, tokens_of, text_of}
 use Rattle.reading.specs.Reading.{Lexed, Cuts}
 use Rattle.reading.specs.Readable.{Readable}
 use Rattle.reading.specs.Back.{cuts_back}
-use Rattle.reading.specs.Once.{cut-once}
+use Rattle.reading.specs.Once.{cut_once}
 
 -- the spellings of lexemes, in order
 abbrev pub spellings : List Lexed → List (List ℕ)
@@ -18,11 +18,11 @@ pub gives_back : (ts : List Token) (ls : List Lexed) → Readable ts ls → Cuts
 gives_back ts ls r = cuts_back true ts ls r.carried r.apart
 
 -- and it is cut in no other way; so streams with different spellings never share a text
-pub never-shared : (ts us : List Token) (ls ms : List Lexed) → Readable ts ls → Readable us ms → text true ts ≡ text true us → spellings ls ≡ spellings ms
-never-shared ts us ls ms r s e =
-    ap spellings (cut-once (text true ts) ls ms [] [] (gives_back ts ls r) (subst (λ (t : List ℕ). Cuts t ms []) (sym e) (gives_back us ms s))).0
+pub never_shared : (ts us : List Token) (ls ms : List Lexed) → Readable ts ls → Readable us ms → text true ts ≡ text true us → spellings ls ≡ spellings ms
+never_shared ts us ls ms r s e =
+    ap spellings (cut_once (text true ts) ls ms [] [] (gives_back ts ls r) (subst (λ (t : List ℕ). Cuts t ms []) (sym e) (gives_back us ms s))).0
 
 -- what a tree writes is the text of its tokens, so all of this holds of what measure and render say
-pub tree-gives-back : (e : Source) (ls : List Lexed) → Readable (tokensOf e) ls → Cuts (text_of e) ls []
+pub tree_gives_back : (e : Source) (ls : List Lexed) → Readable (tokens_of e) ls → Cuts (text_of e) ls []
 unfolding text_of
-tree-gives-back e ls r = gives_back (tokensOf e) ls r
+tree_gives_back e ls r = gives_back (tokens_of e) ls r

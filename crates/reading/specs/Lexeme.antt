@@ -3,7 +3,7 @@ use Rattle.std.specs.Prelude.{ℕ, ◌≡◌, List, [], ◌∷◌, Bool, true, f
 use Rattle.laws.specs.Among.{among, all}
 use Rattle.laws.specs.Bytes.{same}
 use Rattle.laws.specs.Text.{ascii}
-use Rattle.reading.specs.Bytes.{digit, hexDigit, wordFirst, wordByte, quotes, marks, exes, apostrophe}
+use Rattle.reading.specs.Bytes.{digit, hex_digit, word_first, word_byte, quotes, marks, exes, apostrophe}
 use Rattle.reading.specs.Number.{Numeral}
 
 pub data Kind : Type 0 where
@@ -34,14 +34,14 @@ pub data Quotation (q : ℕ) : List ℕ → Type 0 where
 -- behind a blob's opening quote: pairs of hex digits, and then the quote
 pub data Pairs : List ℕ → Type 0 where
   close : Pairs (apostrophe ∷ [])
-  pair : {a b : ℕ} {v : List ℕ} → hexDigit a ≡ true → hexDigit b ≡ true → Pairs v → Pairs (a ∷ b ∷ v)
+  pair : {a b : ℕ} {v : List ℕ} → hex_digit a ≡ true → hex_digit b ≡ true → Pairs v → Pairs (a ∷ b ∷ v)
 
 pub data Lexeme : Kind → List ℕ → Type 0 where
-  word : {b : ℕ} {v : List ℕ} → wordFirst b ≡ true → all wordByte v ≡ true → Lexeme Word (b ∷ v)
+  word : {b : ℕ} {v : List ℕ} → word_first b ≡ true → all word_byte v ≡ true → Lexeme Word (b ∷ v)
   number : {w : List ℕ} → Numeral w → Lexeme Number w
   quoted : {q : ℕ} {v : List ℕ} → among q quotes ≡ true → Quotation q v → Lexeme Quoted (q ∷ v)
   blob : {x : ℕ} {v : List ℕ} → among x exes ≡ true → Pairs v → Lexeme Blob (x ∷ apostrophe ∷ v)
   numbered : {b : ℕ} {v : List ℕ} → among b (ascii "?") ≡ true → all digit v ≡ true → Lexeme Variable (b ∷ v)
-  named : {b c : ℕ} {v : List ℕ} → among b (ascii ":@$") ≡ true → wordByte c ≡ true → all wordByte v ≡ true → Lexeme Variable (b ∷ c ∷ v)
+  named : {b c : ℕ} {v : List ℕ} → among b (ascii ":@$") ≡ true → word_byte c ≡ true → all word_byte v ≡ true → Lexeme Variable (b ∷ c ∷ v)
   operator : {w : List ℕ} → listed w operators ≡ true → Lexeme Operator w
   mark : {b : ℕ} → among b marks ≡ true → Lexeme Mark (b ∷ [])

@@ -2,7 +2,7 @@
 use Rattle.std.specs.Prelude.{ℕ, ◌≡◌, List, [], ◌∷◌, Bool, true, false, not, ◌||◌, ◌&&◌, eqb}
 use Rattle.laws.specs.Bytes.{same}
 use Rattle.laws.specs.Text.{ascii}
-use Rattle.spelling.specs.Token.{TK-BLOB}
+use Rattle.spelling.specs.Token.{TK_BLOB}
 use Rattle.spelling.specs.Spelling.{spelling}
 use Rattle.stream.specs.Stream.{Token, Value, none, some}
 use Rattle.reading.specs.Bytes.{dot, newline}
@@ -18,14 +18,14 @@ is_number Variable = false
 is_number Operator = false
 is_number Mark = false
 
-abbrev pub isMark : Kind → Bool
-isMark Word = false
-isMark Number = false
-isMark Quoted = false
-isMark Blob = false
-isMark Variable = false
-isMark Operator = false
-isMark Mark = true
+abbrev pub is_mark : Kind → Bool
+is_mark Word = false
+is_mark Number = false
+is_mark Quoted = false
+is_mark Blob = false
+is_mark Variable = false
+is_mark Operator = false
+is_mark Mark = true
 
 -- "a word, operator or mark"
 pub data Fixed : Kind → Type 0 where
@@ -39,24 +39,24 @@ pub data Carries (k : ℕ) : Value → Kind → List ℕ → Type 0 where
   fixed : {κ : Kind} {w : List ℕ} → spelling k ≡ w → Fixed κ → Lexeme κ w → Carries k none κ w
   -- "a fixed word or ; with a value of one newline (spelling without the newline)"
   word_line : {w : List ℕ} → spelling k ≡ w → Lexeme Word w → Carries k (some (newline ∷ [])) Word w
-  semi-line : spelling k ≡ ascii ";" → Carries k (some (newline ∷ [])) Mark (ascii ";")
+  semi_line : spelling k ≡ ascii ";" → Carries k (some (newline ∷ [])) Mark (ascii ";")
   -- "a kind with no fixed spelling and a value of one lexeme other than a mark"
-  valued : {κ : Kind} {w : List ℕ} → eqb k TK-BLOB ≡ false → spelling k ≡ [] → isMark κ ≡ false → Lexeme κ w → Carries k (some w) κ w
+  valued : {κ : Kind} {w : List ℕ} → eqb k TK_BLOB ≡ false → spelling k ≡ [] → is_mark κ ≡ false → Lexeme κ w → Carries k (some w) κ w
   -- "TK_BLOB only with a blob or no value (spelling then X'')"
-  blob : {w : List ℕ} → eqb k TK-BLOB ≡ true → Lexeme Blob w → Carries k (some w) Blob w
-  no-blob : eqb k TK-BLOB ≡ true → Carries k none Blob (ascii "X''")
+  blob : {w : List ℕ} → eqb k TK_BLOB ≡ true → Lexeme Blob w → Carries k (some w) Blob w
+  no_blob : eqb k TK_BLOB ≡ true → Carries k none Blob (ascii "X''")
 
 -- "no spelling . next before or after a number"
-abbrev pub isDot : List ℕ → Bool
-isDot w = same w (dot ∷ [])
+abbrev pub is_dot : List ℕ → Bool
+is_dot w = same w (dot ∷ [])
 
 abbrev pub beside : Lexed → Lexed → Bool
-beside a b = (is_number a.0 && isDot b.1) || (isDot a.1 && is_number b.0)
+beside a b = (is_number a.0 && is_dot b.1) || (is_dot a.1 && is_number b.0)
 
-abbrev pub noDotBesideNumber : List Lexed → Bool
-noDotBesideNumber [] = true
-noDotBesideNumber (a ∷ []) = true
-noDotBesideNumber (a ∷ b ∷ ls) = not (beside a b) && noDotBesideNumber (b ∷ ls)
+abbrev pub no_dot_beside_number : List Lexed → Bool
+no_dot_beside_number [] = true
+no_dot_beside_number (a ∷ []) = true
+no_dot_beside_number (a ∷ b ∷ ls) = not (beside a b) && no_dot_beside_number (b ∷ ls)
 
 -- each token of a stream carries a lexeme
 pub data Carried : List Token → List Lexed → Type 0 where
@@ -66,4 +66,4 @@ pub data Carried : List Token → List Lexed → Type 0 where
 -- a readable stream, with its lexemes: "each token is one lexeme of 01's list, in the carriers listed there, and no dot stands beside a number"
 pub record Readable (ts : List Token) (ls : List Lexed) : Type 0 where
   pub carried : Carried ts ls
-  pub apart : noDotBesideNumber ls ≡ true
+  pub apart : no_dot_beside_number ls ≡ true

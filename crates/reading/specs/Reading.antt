@@ -2,7 +2,7 @@
 use Rattle.std.specs.Prelude.{ℕ, ◌≡◌, List, [], ◌∷◌, ◌++◌, Bool, false, cond, ◌&&◌, eqb}
 use Rattle.laws.specs.Among.{among}
 use Rattle.laws.specs.First.{first}
-use Rattle.reading.specs.Bytes.{digit, wordFirst, wordByte, blanks, variables, quotes, marks, exes, apostrophe}
+use Rattle.reading.specs.Bytes.{digit, word_first, word_byte, blanks, variables, quotes, marks, exes, apostrophe}
 use Rattle.reading.specs.Number.{Taken, taken, unclosed, after, takes, number}
 use Rattle.reading.specs.Lexeme.{Kind, Word, Number, Quoted, Blob, Variable, Operator, Mark, operators}
 
@@ -11,8 +11,8 @@ abbrev pub joined : List (List ℕ) → List ℕ
 joined [] = []
 joined (w ∷ l) = w ++ joined l
 
-unfoldable pub operatorByte : ℕ → Bool
-operatorByte b = among b (joined operators)
+unfoldable pub operator_byte : ℕ → Bool
+operator_byte b = among b (joined operators)
 
 -- what a byte begins
 pub data Start : Type 0 where
@@ -29,7 +29,7 @@ unfoldable pub start : ℕ → Start
 start b =
     first
     ((among b blanks, blank) ∷ (among b marks, mark) ∷ (among b quotes, quote) ∷ (digit b, digits)
-    ∷ (wordFirst b, word) ∷ (among b variables, variable) ∷ (operatorByte b, operator) ∷ [])
+    ∷ (word_first b, word) ∷ (among b variables, variable) ∷ (operator_byte b, operator) ∷ [])
     nothing
 
 -- "through the next '"
@@ -75,9 +75,9 @@ read (b ∷ t) =
       | mark ↦ lexeme Mark (b ∷ []) t
       | quote ↦ answer Quoted (b ∷ t) (after (b ∷ []) (closing b t))
       | digits ↦ answer Number (b ∷ t) (number b t)
-      | word ↦ cond (among b exes && opened t) (answer Blob (b ∷ t) (after (b ∷ []) (blobbed t))) (answer Word (b ∷ t) (after (b ∷ []) (takes wordByte t)))
-      | variable ↦ answer Variable (b ∷ t) (after (b ∷ []) (takes wordByte t))
-      | operator ↦ answer Operator (b ∷ t) (after (b ∷ []) (takes operatorByte t))
+      | word ↦ cond (among b exes && opened t) (answer Blob (b ∷ t) (after (b ∷ []) (blobbed t))) (answer Word (b ∷ t) (after (b ∷ []) (takes word_byte t)))
+      | variable ↦ answer Variable (b ∷ t) (after (b ∷ []) (takes word_byte t))
+      | operator ↦ answer Operator (b ∷ t) (after (b ∷ []) (takes operator_byte t))
       | nothing ↦ failure (b ∷ t)
     ]
 

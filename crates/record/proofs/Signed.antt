@@ -10,8 +10,8 @@ use mir.ValLaws.{to_z-of_z, to_z_pos}
 use Rattle.record.specs.Record.{signed}
 use Rattle.record.specs.Laws.{signed_low, signed_high}
 
-pub low-is : (n : ℕ) → n < 2 ^ 63 → to_z w64 n ≡ signed n
-low-is n h = to_z_pos w64 n h ∙ sym (signed_low n h)
+pub low_is : (n : ℕ) → n < 2 ^ 63 → to_z w64 n ≡ signed n
+low_is n h = to_z_pos w64 n h ∙ sym (signed_low n h)
 
 minus : (k : ℕ) → negsuc 0 -ℤ pos k ≡ negsuc k
 minus zero = refl
@@ -25,11 +25,11 @@ module _ (n : ℕ) (h : 2 ^ 63 ≤ n) (l : n < 2 ^ 64) where
   left : 2 ^ 64 - 1 - n < 2 ^ 63
   left = omega arith
 
-  less-is : less n ≡ negsuc (2 ^ 64 - 1 - n)
-  less-is = rw (to_z_pos w64 (2 ^ 64 - 1 - n) left) (minus (2 ^ 64 - 1 - n))
+  less_is : less n ≡ negsuc (2 ^ 64 - 1 - n)
+  less_is = rw (to_z_pos w64 (2 ^ 64 - 1 - n) left) (minus (2 ^ 64 - 1 - n))
 
-  pub less-fits : SFits w64 (less n)
-  less-fits = rw less-is (record { sfits = left })
+  pub less_fits : SFits w64 (less n)
+  less_fits = rw less_is (record { sfits = left })
 
   pub high_is : to_z w64 (of_z w64 (less n)) ≡ signed n
-  high_is = to_z-of_z w64 (less n) less-fits ∙ less-is ∙ sym (signed_high n h l)
+  high_is = to_z-of_z w64 (less n) less_fits ∙ less_is ∙ sym (signed_high n h l)

@@ -1,6 +1,6 @@
 -- Examples: the three records of 01, section 6, and five numbers.
 use Rattle.std.specs.Prelude.{ℕ, ◌≡◌, refl, List, [], ◌∷◌, ◌++◌, true, replicate, ℤ, pos, negsuc}
-use Rattle.record.specs.Record.{recordOf, count, bytes_at, recordAt, markOk, signed, number_of}
+use Rattle.record.specs.Record.{record_of, count, bytes_at, record_at, mark_ok, signed, number_of}
 
 abbrev tree : List ℕ
 tree =
@@ -12,42 +12,42 @@ tree =
 three : count tree ≡ 3
 three = refl
 
-first : recordAt tree 0 ≡ record { mark = 0x4E53; kind = 10; flags = 0; kids = 1; start = 0; len = 0 }
-unfolding recordAt bytes_at
+first : record_at tree 0 ≡ record { mark = 0x4E53; kind = 10; flags = 0; kids = 1; start = 0; len = 0 }
+unfolding record_at bytes_at
 first = refl
 
-second : recordAt tree 1 ≡ record { mark = 0x4E53; kind = 61; flags = 1; kids = 1; start = 0; len = 0 }
-unfolding recordAt bytes_at
+second : record_at tree 1 ≡ record { mark = 0x4E53; kind = 61; flags = 1; kids = 1; start = 0; len = 0 }
+unfolding record_at bytes_at
 second = refl
 
-third : recordAt tree 2 ≡ record { mark = 0x4E53; kind = 4; flags = 0; kids = 0; start = 0; len = 3 }
-unfolding recordAt bytes_at
+third : record_at tree 2 ≡ record { mark = 0x4E53; kind = 4; flags = 0; kids = 0; start = 0; len = 3 }
+unfolding record_at bytes_at
 third = refl
 
-marked : markOk (recordAt tree 0) ≡ true
-unfolding recordAt bytes_at
+marked : mark_ok (record_at tree 0) ≡ true
+unfolding record_at bytes_at
 marked = refl
 
 -- the number of a record whose bytes 8 to 15 are given
 abbrev number : List ℕ → ℤ
-number bs = number_of (recordOf (0x53 ∷ 0x4E ∷ replicate 6 0x00 ++ bs))
+number bs = number_of (record_of (0x53 ∷ 0x4E ∷ replicate 6 0x00 ++ bs))
 
 zero_is : number (replicate 8 0x00) ≡ pos 0
 unfolding number_of signed
 zero_is = refl
 
-one-is : number (0x01 ∷ replicate 7 0x00) ≡ pos 1
+one_is : number (0x01 ∷ replicate 7 0x00) ≡ pos 1
 unfolding number_of signed
-one-is = refl
+one_is = refl
 
 minus_one_is : number (replicate 8 0xFF) ≡ negsuc 0
 unfolding number_of signed
 minus_one_is = refl
 
-highest-is : number (replicate 7 0xFF ++ 0x7F ∷ []) ≡ pos 9223372036854775807
+highest_is : number (replicate 7 0xFF ++ 0x7F ∷ []) ≡ pos 9223372036854775807
 unfolding number_of signed
-highest-is = refl
+highest_is = refl
 
-lowest-is : number (replicate 7 0x00 ++ 0x80 ∷ []) ≡ negsuc 9223372036854775807
+lowest_is : number (replicate 7 0x00 ++ 0x80 ∷ []) ≡ negsuc 9223372036854775807
 unfolding number_of signed
-lowest-is = refl
+lowest_is = refl

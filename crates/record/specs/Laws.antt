@@ -2,8 +2,8 @@
 use Rattle.std.specs.Prelude.{ℕ, zero, suc, ◌+◌, ◌-◌, ◌*◌, ◌^◌, ◌≤◌, ◌<◌, ◌≡◌, refl, List, [], ◌∷◌, Bool, true, false, ltb, length, get_or, take, drop, pos, negsuc, ◌-ℤ◌}
 use Rattle.std.proofs.Common.{arith, add-zero, add-suc, ap, lit<, drop-cons, drop-drop, ltb-true, ltb-false, lt-ltb, le-ltb, le-leb}
 use Rattle.std.proofs.lemmas.Bool.{lt-leb}
-use Rattle.laws.specs.Little.{fromLittle}
-use Rattle.record.specs.Record.{part, field, recordOf, count, bytes_at, recordAt, signed, number_of}
+use Rattle.laws.specs.Little.{from_little}
+use Rattle.record.specs.Record.{part, field, record_of, count, bytes_at, record_at, signed, number_of}
 use Rattle.record.specs.declared.Record.{Record}
 
 -- n bytes, one by one, from the k-th behind a place on
@@ -20,29 +20,29 @@ part_bytes t at k (suc n) h =
     let ih = part_bytes t at (suc k) n (omega arith) in
     rw (drop-cons t (at + k) 0 (omega arith), ← add-suc, ih)
 
-part-sixteen : (t : List ℕ) (at : ℕ) → at + 16 ≤ length t → part t at 16 ≡ sixteen t at
-part-sixteen t at h = simp add-zero at (part_bytes t at 0 16 (omega arith))
+part_sixteen : (t : List ℕ) (at : ℕ) → at + 16 ≤ length t → part t at 16 ≡ sixteen t at
+part_sixteen t at h = simp add-zero at (part_bytes t at 0 16 (omega arith))
 
 -- the record at an index that is there, of its sixteen bytes
-pub there : (t : List ℕ) (i : ℕ) → i < count t → recordAt t i ≡ recordOf (sixteen t (i * 16))
-unfolding recordAt bytes_at
-there t i h = rw (lt-ltb i (count t) h) (ap recordOf (part-sixteen t (i * 16) (omega arith)))
+pub there : (t : List ℕ) (i : ℕ) → i < count t → record_at t i ≡ record_of (sixteen t (i * 16))
+unfolding record_at bytes_at
+there t i h = rw (lt-ltb i (count t) h) (ap record_of (part_sixteen t (i * 16) (omega arith)))
 
 -- past the last whole record all numbers are 0
 abbrev pub nothing : Record
 nothing = record { mark = 0; kind = 0; flags = 0; kids = 0; start = 0; len = 0 }
 
-pub past : (t : List ℕ) (i : ℕ) → count t ≤ i → recordAt t i ≡ nothing
-unfolding recordAt bytes_at
+pub past : (t : List ℕ) (i : ℕ) → count t ≤ i → record_at t i ≡ nothing
+unfolding record_at bytes_at
 past t i h = rw (le-ltb i (count t) h)
 
 -- what holds of a record built of bytes, and of zeros, holds of the record at any index
-module _ (P : Record → Type 0) (t : List ℕ) (i : ℕ) (some : P (recordOf (sixteen t (i * 16)))) (none : P nothing) where
-  by : (b : Bool) → ltb i (count t) ≡ b → P (recordAt t i)
+module _ (P : Record → Type 0) (t : List ℕ) (i : ℕ) (some : P (record_of (sixteen t (i * 16)))) (none : P nothing) where
+  by : (b : Bool) → ltb i (count t) ≡ b → P (record_at t i)
   by true e = rw (there t i (ltb-true i (count t) e)) some
   by false e = rw (past t i (ltb-false i (count t) e)) none
 
-  either : P (recordAt t i)
+  either : P (record_at t i)
   either = by (ltb i (count t)) refl
 
 -- the bounds, where the tree is of bytes
@@ -54,27 +54,27 @@ pub record Bounded (r : Record) : Type 0 where
   pub start : r.start < 2 ^ 32
   pub len : r.len < 2 ^ 32
 
-two-below : {a b : ℕ} → a < 256 → b < 256 → fromLittle (a ∷ b ∷ []) < 2 ^ 16
-two-below h k = omega arith
+two_below : {a b : ℕ} → a < 256 → b < 256 → from_little (a ∷ b ∷ []) < 2 ^ 16
+two_below h k = omega arith
 
-four_below : {a b c d : ℕ} → a < 256 → b < 256 → c < 256 → d < 256 → fromLittle (a ∷ b ∷ c ∷ d ∷ []) < 2 ^ 32
+four_below : {a b c d : ℕ} → a < 256 → b < 256 → c < 256 → d < 256 → from_little (a ∷ b ∷ c ∷ d ∷ []) < 2 ^ 32
 four_below h k l m = omega arith
 
-sixteen-bounded : (t : List ℕ) (at : ℕ) → ((k : ℕ) → get_or t k 0 < 256) → Bounded (recordOf (sixteen t at))
-sixteen-bounded t at b = record {
-  mark = two-below (b at) (b (at + 1));
-  kind = two-below (b (at + 2)) (b (at + 3));
-  flags = two-below (b (at + 4)) (b (at + 5));
-  kids = two-below (b (at + 6)) (b (at + 7));
+sixteen_bounded : (t : List ℕ) (at : ℕ) → ((k : ℕ) → get_or t k 0 < 256) → Bounded (record_of (sixteen t at))
+sixteen_bounded t at b = record {
+  mark = two_below (b at) (b (at + 1));
+  kind = two_below (b (at + 2)) (b (at + 3));
+  flags = two_below (b (at + 4)) (b (at + 5));
+  kids = two_below (b (at + 6)) (b (at + 7));
   start = four_below (b (at + 8)) (b (at + 9)) (b (at + 10)) (b (at + 11));
   len = four_below (b (at + 12)) (b (at + 13)) (b (at + 14)) (b (at + 15));
 }
 
-nothing-bounded : Bounded nothing
-nothing-bounded = record { mark = lit< tt; kind = lit< tt; flags = lit< tt; kids = lit< tt; start = lit< tt; len = lit< tt }
+nothing_bounded : Bounded nothing
+nothing_bounded = record { mark = lit< tt; kind = lit< tt; flags = lit< tt; kids = lit< tt; start = lit< tt; len = lit< tt }
 
-pub bounded : (t : List ℕ) (i : ℕ) → ((k : ℕ) → get_or t k 0 < 256) → Bounded (recordAt t i)
-bounded t i b = either Bounded t i (sixteen-bounded t (i * 16) b) nothing-bounded
+pub bounded : (t : List ℕ) (i : ℕ) → ((k : ℕ) → get_or t k 0 < 256) → Bounded (record_at t i)
+bounded t i b = either Bounded t i (sixteen_bounded t (i * 16) b) nothing_bounded
 
 -- two's complement
 pub signed_low : (n : ℕ) → n < 2 ^ 63 → signed n ≡ pos n
@@ -91,17 +91,17 @@ unfolding signed
 signed_high n h l = rw (le-leb (2 ^ 63) n h) (less n l)
 
 -- the number is that of bytes 8 to 15
-halves : (bs : List ℕ) → fromLittle (take 4 bs) + fromLittle (take 4 (drop 4 bs)) * 2 ^ 32 ≡ fromLittle (take 8 bs)
+halves : (bs : List ℕ) → from_little (take 4 bs) + from_little (take 4 (drop 4 bs)) * 2 ^ 32 ≡ from_little (take 8 bs)
 halves [] = refl
 halves (a ∷ []) = omega arith
 halves (a ∷ b ∷ []) = omega arith
 halves (a ∷ b ∷ c ∷ []) = omega arith
 halves (a ∷ b ∷ c ∷ d ∷ bs) = omega arith
 
-pub number-bytes : (bs : List ℕ) → number_of (recordOf bs) ≡ signed (field bs 8 8)
+pub number_bytes : (bs : List ℕ) → number_of (record_of bs) ≡ signed (field bs 8 8)
 unfolding number_of
-number-bytes bs = ap signed (rw (drop-drop 4 8 bs) at (halves (drop 8 bs)))
+number_bytes bs = ap signed (rw (drop-drop 4 8 bs) at (halves (drop 8 bs)))
 
-pub number_at : (t : List ℕ) (i : ℕ) → number_of (recordAt t i) ≡ signed (field (bytes_at t i) 8 8)
-unfolding recordAt
-number_at t i = number-bytes (bytes_at t i)
+pub number_at : (t : List ℕ) (i : ℕ) → number_of (record_at t i) ≡ signed (field (bytes_at t i) 8 8)
+unfolding record_at
+number_at t i = number_bytes (bytes_at t i)

@@ -1,7 +1,7 @@
 // The records of a tree (01, section 2): sixteen bytes each, their numbers little-endian.
 ghost use Rattle.std.specs.Prelude.{◌≡◌, [], ◌∷◌, ◌+◌, ◌≤◌, length};
-ghost use Rattle.laws.specs.Little.{fromLittle};
-ghost use Rattle.record.specs.Record.{recordOf, count as count', recordAt, number_of};
+ghost use Rattle.laws.specs.Little.{from_little};
+ghost use Rattle.record.specs.Record.{record_of, count as count', record_at as record_at', number_of};
 ghost use Rattle.record.specs.Laws.{sixteen};
 
 // The mark that opens a record, the bytes 53 4E.
@@ -35,14 +35,14 @@ pub struct Record {
 
 // The number of two bytes, the lowest first.
 fn half(a: u8, b: u8) -> u16
-    ensures { result ≡ fromLittle (a ∷ b ∷ []) }
+    ensures { result ≡ from_little (a ∷ b ∷ []) }
 {
     a as u16 + b as u16 * BYTE
 }
 
 // The number of four bytes, the lowest first.
 fn word(a: u8, b: u8, c: u8, d: u8) -> u32
-    ensures { result ≡ fromLittle (a ∷ b ∷ c ∷ d ∷ []) }
+    ensures { result ≡ from_little (a ∷ b ∷ c ∷ d ∷ []) }
 {
     half(a, b) as u32 + half(c, d) as u32 * HALF
 }
@@ -57,7 +57,7 @@ pub fn count(tree: &[u8]) -> usize
 // The record whose bytes stand from a place on.
 fn record_at(tree: &[u8], at: usize) -> Record
     requires { at + 16 ≤ length tree.now }
-    ensures { result ≡ recordOf (sixteen tree.now at) }
+    ensures { result ≡ record_of (sixteen tree.now at) }
 {
     Record {
         mark: half(tree[at], tree[at + 1]),
@@ -71,7 +71,7 @@ fn record_at(tree: &[u8], at: usize) -> Record
 
 // The record at an index of a tree; past the last whole one, zeros.
 pub fn read(tree: &[u8], index: usize) -> Record
-    ensures { result ≡ recordAt tree.now index }
+    ensures { result ≡ record_at' tree.now index }
 {
     if index < count(tree) {
         return record_at(tree, index * SIZE);

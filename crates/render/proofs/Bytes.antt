@@ -40,9 +40,9 @@ module _ {M : Type 1} {𝓤 : Ura M} (𝓛 : Logic 𝓤) (n l : ℕ) (xs : List 
       owned ! (Array u8 n) (Is (Array u8 n)) (Array-Makes 𝓛 u8 (uint_Makes 𝓛 w8) n) xs _ is $ move ! (1 ∷ 0 ∷ []) $ fjoin ! $
       fpack ! (List Val) (λ us. fsep (cell_at full_share (Array u8 n).mir us l 0) ((Array u8 n).own_val xs us)) (mach xs ∷ []) $ by ! (Array-apart 𝓛 u8 full_share tt n xs l 0)
 
-  pub comes-out : ent 𝓤 (sem 𝓛 apart) (sem 𝓛 cell)
+  pub comes_out : ent 𝓤 (sem 𝓛 apart) (sem 𝓛 cell)
   unfolding part_of
-  comes-out =
+  comes_out =
       qed 𝓛 (‵ apart ∷ []) ∵ use1 𝓛 (‵ (part_at (Array u8 n) full_share xs l 0)) (Array-whole 𝓛 u8 full_share n xs l 0) $ fpick ! (λ vs. fsplit ! $ move ! (1 ∷ []) $
       peeks ! (Array u8 n) (Is (Array u8 n)) (shows 𝓛 (Array u8 n)) xs vs (λ is. drop ! $
       rewrite ! 0 (λ (us : List Val). ‵ (cell_at full_share (Array u8 n).mir us l 0)) (Array-Tells u8 (uint_vals w8) (uint_Tells w8) n xs vs is) refl $

@@ -13,18 +13,18 @@ use Rattle.render.specs.declared.Outcome.{Outcome}
 use Rattle.render.specs.declared.Outcome.TheVariants.{Done, Refused, NoRoom}
 use Rattle.render.specs.declared.jobs.Job.{Job}
 use Rattle.render.specs.Render.{RendersIn, number_of, place_of}
-use Rattle.render.specs.Laws.{renders-unique, done-fits}
+use Rattle.render.specs.Laws.{renders_unique, done_fits}
 use Rattle.render.specs.Jobs.{outside, tree_of, answered, written, Called, Single, InOrder, none, one, RendersJobs}
 
 -- ---- a job outside the tree buffer, tested with no sum
 module _ (trees : List ℕ) (j : Job) where
-  pub outside-past : length trees < j.tree_start → true ≡ outside trees j
+  pub outside_past : length trees < j.tree_start → true ≡ outside trees j
   unfolding outside
-  outside-past h = sym (lt-ltb (length trees) (j.tree_start + j.tree_len) (omega arith))
+  outside_past h = sym (lt-ltb (length trees) (j.tree_start + j.tree_len) (omega arith))
 
-  pub outside-by : j.tree_start ≤ length trees → ltb (length trees - j.tree_start) j.tree_len ≡ outside trees j
+  pub outside_by : j.tree_start ≤ length trees → ltb (length trees - j.tree_start) j.tree_len ≡ outside trees j
   unfolding outside
-  outside-by h = by (ltb (length trees - j.tree_start) j.tree_len) refl
+  outside_by h = by (ltb (length trees - j.tree_start) j.tree_len) refl
     where
       by : (b : Bool) → ltb (length trees - j.tree_start) j.tree_len ≡ b
           → ltb (length trees - j.tree_start) j.tree_len ≡ ltb (length trees) (j.tree_start + j.tree_len)
@@ -35,14 +35,14 @@ module _ (trees : List ℕ) (j : Job) where
           let l = ltb-false (length trees - j.tree_start) j.tree_len e in
           e ∙ sym (le-ltb (length trees) (j.tree_start + j.tree_len) (omega arith))
 
-  pub inside-ends : outside trees j ≡ false → j.tree_start + j.tree_len ≤ length trees
+  pub inside_ends : outside trees j ≡ false → j.tree_start + j.tree_len ≤ length trees
   unfolding outside
-  inside-ends h = ltb-false (length trees) (j.tree_start + j.tree_len) h
+  inside_ends h = ltb-false (length trees) (j.tree_start + j.tree_len) h
 
 -- ---- the ways through one job
 module _ {m : Mode} {trees x : List ℕ} {j : Job} {out : List ℕ} {at : ℕ} where
-  pub is-beyond : outside trees j ≡ true → Single m trees x j out at (answered j 1 0 at) out at
-  is-beyond h = record { beyond = λ _. (refl, (refl, refl)); within = λ w. absurd (false≢true (sym w ∙ h)) }
+  pub is_beyond : outside trees j ≡ true → Single m trees x j out at (answered j 1 0 at) out at
+  is_beyond h = record { beyond = λ _. (refl, (refl, refl)); within = λ w. absurd (false≢true (sym w ∙ h)) }
 
   pub is_within : {j' : Job} {out' : List ℕ} {next : ℕ} → outside trees j ≡ false → Called m (tree_of trees j) x j out at j' out' next → Single m trees x j out at j' out' next
   is_within h c = record { beyond = λ w. absurd (false≢true (sym h ∙ w)); within = λ _. c }
@@ -63,17 +63,17 @@ called out at o room h r said =
     }
 
 -- what is written fits the room
-pub written-fits : {m : Mode} {t x out out' : List ℕ} (o : Outcome) → RendersIn m t x out o out' → written o ≤ length out
-written-fits (Done n) r = done-fits r
-written-fits (Refused a) r = omega arith
-written-fits (NoRoom n) r = omega arith
+pub written_fits : {m : Mode} {t x out out' : List ℕ} (o : Outcome) → RendersIn m t x out o out' → written o ≤ length out
+written_fits (Done n) r = done_fits r
+written_fits (Refused a) r = omega arith
+written_fits (NoRoom n) r = omega arith
 
-pub single-room : {m : Mode} {trees x : List ℕ} {j j' : Job} {out out' : List ℕ} {at next : ℕ} → Single m trees x j out at j' out' next → at ≤ length out → next ≤ length out
-single-room {m} {trees} {x} {j} {j'} {out} {out'} {at} {next} s h = by (outside trees j) refl
+pub single_room : {m : Mode} {trees x : List ℕ} {j j' : Job} {out out' : List ℕ} {at next : ℕ} → Single m trees x j out at j' out' next → at ≤ length out → next ≤ length out
+single_room {m} {trees} {x} {j} {j'} {out} {out'} {at} {next} s h = by (outside trees j) refl
   where
     by : (b : Bool) → outside trees j ≡ b → next ≤ length out
     by true e = omega (arith, (s.beyond e).1.1)
-    by false e = let c = s.within e in omega (arith, c.behind, written-fits c.outcome c.renders, length-drop at out)
+    by false e = let c = s.within e in omega (arith, c.behind, written_fits c.outcome c.renders, length-drop at out)
 
 -- ---- a walk over the jobs: i of them are done, js are the jobs now, zs the output, and the next text begins at n
 module _ (m : Mode) (trees x : List ℕ) (xs : List Job) (os : List ℕ) where
@@ -104,9 +104,9 @@ module _ (m : Mode) (trees x y : List ℕ) where
   abbrev pub Same : Job → Type 0
   Same j = (out k l : List ℕ) (o p : Outcome) → RendersIn m (tree_of trees j) x out o k → RendersIn m (tree_of trees j) y out p l → (o ≡ p) × (k ≡ l)
 
-  single-same : {j a b : Job} {out k l : List ℕ} {at n p : ℕ} → (outside trees j ≡ false → Same j) → Single m trees x j out at a k n → Single m trees y j out at b l p
+  single_same : {j a b : Job} {out k l : List ℕ} {at n p : ℕ} → (outside trees j ≡ false → Same j) → Single m trees x j out at a k n → Single m trees y j out at b l p
       → (a ≡ b) × ((k ≡ l) × (n ≡ p))
-  single-same {j} {a} {b} {out} {k} {l} {at} {n} {p} same f g = by (outside trees j) refl
+  single_same {j} {a} {b} {out} {k} {l} {at} {n} {p} same f g = by (outside trees j) refl
     where
       by : (c : Bool) → outside trees j ≡ c → (a ≡ b) × ((k ≡ l) × (n ≡ p))
       by true e =
@@ -124,19 +124,19 @@ module _ (m : Mode) (trees x y : List ℕ) where
   beside : {j k : Job} {js ks : List Job} → j ≡ k → js ≡ ks → j ∷ js ≡ k ∷ ks
   beside {j} {k} {js} {ks} e f = ap (λ (z : Job). z ∷ js) e ∙ ap (λ (zs : List Job). k ∷ zs) f
 
-  from-one-start : {js a b : List Job} {out out₂ k l : List ℕ} {at at₂ n p : ℕ} → ((j : Job) → Memᴰ j js → outside trees j ≡ false → Same j) → out ≡ out₂ → at ≡ at₂
+  from_one_start : {js a b : List Job} {out out₂ k l : List ℕ} {at at₂ n p : ℕ} → ((j : Job) → Memᴰ j js → outside trees j ≡ false → Same j) → out ≡ out₂ → at ≡ at₂
       → InOrder m trees x js out at a k n → InOrder m trees y js out₂ at₂ b l p → (a ≡ b) × ((k ≡ l) × (n ≡ p))
-  from-one-start same e h none none = (refl, (e, h))
-  from-one-start same e h (one f fs) (one g gs) =
-      let u = single-same (same _ (Memᴰ.head refl)) (rw (e, h) at f) g in
-      let v = from-one-start (λ j i. same j (Memᴰ.tail i)) u.1.0 u.1.1 fs gs in
+  from_one_start same e h none none = (refl, (e, h))
+  from_one_start same e h (one f fs) (one g gs) =
+      let u = single_same (same _ (Memᴰ.head refl)) (rw (e, h) at f) g in
+      let v = from_one_start (λ j i. same j (Memᴰ.tail i)) u.1.0 u.1.1 fs gs in
       (beside u.0 v.0, v.1)
 
-  pub jobs-same : {js a b : List Job} {out k l : List ℕ} {n p : ℕ} → ((j : Job) → Memᴰ j js → outside trees j ≡ false → Same j)
+  pub jobs_same : {js a b : List Job} {out k l : List ℕ} {n p : ℕ} → ((j : Job) → Memᴰ j js → outside trees j ≡ false → Same j)
       → RendersJobs m trees x js out a k n → RendersJobs m trees y js out b l p → (a ≡ b) × ((k ≡ l) × (n ≡ p))
-  jobs-same same = from-one-start same refl refl
+  jobs_same same = from_one_start same refl refl
 
 -- no two outcomes satisfy the contract
-pub jobs-unique : (m : Mode) (trees x : List ℕ) {js a b : List Job} {out k l : List ℕ} {n p : ℕ} → RendersJobs m trees x js out a k n → RendersJobs m trees x js out b l p
+pub jobs_unique : (m : Mode) (trees x : List ℕ) {js a b : List Job} {out k l : List ℕ} {n p : ℕ} → RendersJobs m trees x js out a k n → RendersJobs m trees x js out b l p
     → (a ≡ b) × ((k ≡ l) × (n ≡ p))
-jobs-unique m trees x = jobs-same m trees x x (λ j _ _ out k l o p. renders-unique m (tree_of trees j) x out o p k l)
+jobs_unique m trees x = jobs_same m trees x x (λ j _ _ out k l o p. renders_unique m (tree_of trees j) x out o p k l)

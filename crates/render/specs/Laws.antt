@@ -17,25 +17,25 @@ use Rattle.stream.specs.Laws.{count_fits}
 use Rattle.tree.specs.Check as tree
 use Rattle.tree.specs.Check.{ChecksIn}
 use Rattle.tree.specs.Whole as whole
-use Rattle.tree.specs.Bounds.{place-small, admitted-short, number_small as tree-number-small}
+use Rattle.tree.specs.Bounds.{place_small, admitted_short, number_small as tree-number-small}
 use Rattle.tree.specs.declared.Answer.{Answer}
-use Rattle.tokens.specs.Tokens.{tokensOf}
-use Rattle.tokens.specs.Bound.{text-fits}
-use Rattle.tokens.specs.Tokens.{inEdition}
+use Rattle.tokens.specs.Tokens.{tokens_of}
+use Rattle.tokens.specs.Bound.{text_fits}
+use Rattle.tokens.specs.Tokens.{in_edition}
 use Rattle.pen.specs.Pen.{emit}
-use Rattle.pen.specs.Emit.{fresh, text-counted, text-stored}
+use Rattle.pen.specs.Emit.{fresh, text_counted, text_stored}
 use Rattle.render.specs.declared.Outcome.{Outcome}
 use Rattle.render.specs.declared.Outcome.TheVariants.{Done, Refused, NoRoom}
-use Rattle.render.specs.Render.{textIn, refuses, measured, rendered, outputAfter, MeasuresIn, RendersIn, number_of, place_of}
+use Rattle.render.specs.Render.{text_in, refuses, measured, rendered, output_after, MeasuresIn, RendersIn, number_of, place_of}
 use Rattle.render.specs.Steps.{counted, Writes, Drafted}
 
 -- ---- the tokens of a tree, written by a fresh sink, are its text
-pub writes : (v : Edition) (t x w out : List ℕ) (st : State) → w ≡ bytes → length out ≤ most → st ≡ emit w (fresh, out) (tokensOf (inEdition t x v)) → Writes v t x out st.0.at st.1
+pub writes : (v : Edition) (t x w out : List ℕ) (st : State) → w ≡ bytes → length out ≤ most → st ≡ emit w (fresh, out) (tokens_of (in_edition t x v)) → Writes v t x out st.0.at st.1
 unfolding counted
 writes v t x w out st pool room e =
     record {
-      counts = ap (λ (s : State). s.0.at) e ∙ text-counted w out (inEdition t x v) pool room;
-      stores = ap (λ (s : State). s.1) e ∙ text-stored w out (inEdition t x v) pool room;
+      counts = ap (λ (s : State). s.0.at) e ∙ text_counted w out (in_edition t x v) pool room;
+      stores = ap (λ (s : State). s.1) e ∙ text_stored w out (in_edition t x v) pool room;
     }
 
 -- ---- the ways through measure, by the number of the check's answer
@@ -45,97 +45,97 @@ module _ {mode : Mode} {t x : List ℕ} {a : Answer} (c : ChecksIn mode t x a) (
   refused h = record { answer = a; checks = c; answers = rw (← is, ne_eqb m 0 h) }
 
   -- a text that is admitted is short
-  text-short : m ≡ 0 → ((k : ℕ) → get_or t k 0 < 256) → length (textIn mode.edition t x) < 2 ^ 32
-  text-short z inBytes =
-      let s = admitted-short c (sym is ∙ z) in
-      text-fits (inEdition t x mode.edition) (record { tree = s.0; bytes = inBytes; text = s.1 })
+  text_short : m ≡ 0 → ((k : ℕ) → get_or t k 0 < 256) → length (text_in mode.edition t x) < 2 ^ 32
+  text_short z inBytes =
+      let s = admitted_short c (sym is ∙ z) in
+      text_fits (in_edition t x mode.edition) (record { tree = s.0; bytes = inBytes; text = s.1 })
 
   -- so the count is its length
-  pub measured-all : m ≡ 0 → ((k : ℕ) → get_or t k 0 < 256) → (n : ℕ) → n ≡ counted mode.edition t x → MeasuresIn mode t x (Done n)
+  pub measured_all : m ≡ 0 → ((k : ℕ) → get_or t k 0 < 256) → (n : ℕ) → n ≡ counted mode.edition t x → MeasuresIn mode t x (Done n)
   unfolding measured refuses counted
-  measured-all z inBytes n e =
-      let l = length (textIn mode.edition t x) in
-      let s = text-short z inBytes in
+  measured_all z inBytes n e =
+      let l = length (text_in mode.edition t x) in
+      let s = text_short z inBytes in
       let q : n ≡ l = e ∙ count_fits 0 l (omega arith) ∙ zero-add l in
       record { answer = a; checks = c; answers = rw (← is, eq-eqb m 0 z, q) }
 
 -- ---- the draft, and the copy of it
-pub drafted : (v : Edition) (t x d d' : List ℕ) → d' ≡ sets d 0 (textIn v t x) → Drafted v t x d'
+pub drafted : (v : Edition) (t x d d' : List ℕ) → d' ≡ sets d 0 (text_in v t x) → Drafted v t x d'
 drafted v t x d d' e h =
-    let text = textIn v t x in
+    let text = text_in v t x in
     let l : length d' ≡ length d = ap length e ∙ length-sets d 0 text in
     rw (e, sets-eq text d 0 (omega arith)) (take-append_seam text (drop (0 + length text) d))
 
-pub copied : (v : Edition) (t x out d out' : List ℕ) (n : ℕ) → n ≡ length (textIn v t x) → n ≤ length out → n ≤ length d → Drafted v t x d
-    → out' ≡ take n (take n d) ++ drop n out → out' ≡ sets out 0 (textIn v t x)
+pub copied : (v : Edition) (t x out d out' : List ℕ) (n : ℕ) → n ≡ length (text_in v t x) → n ≤ length out → n ≤ length d → Drafted v t x d
+    → out' ≡ take n (take n d) ++ drop n out → out' ≡ sets out 0 (text_in v t x)
 copied v t x out d out' n l h i begins e =
-    let text = textIn v t x in
+    let text = text_in v t x in
     rw (e, sets-eq text out 0 (omega arith), zero-add, l, begins (omega arith), take-length text)
 
 -- ---- the ways through render, by what measure comes to
 module _ {mode : Mode} {t x : List ℕ} (out : List ℕ) where
   -- a refusal stays one
   pub kept : {o : Outcome} → ((n : ℕ) → o ≡ Done n → ⊥) → MeasuresIn mode t x o → RendersIn mode t x out o out
-  unfolding measured rendered outputAfter
+  unfolding measured rendered output_after
   kept {o} other m = by (refuses m.answer) refl m.answers
     where
-      by : (b : Bool) → refuses m.answer ≡ b → o ≡ cond b (Refused m.answer) (Done (length (textIn mode.edition t x))) → RendersIn mode t x out o out
+      by : (b : Bool) → refuses m.answer ≡ b → o ≡ cond b (Refused m.answer) (Done (length (text_in mode.edition t x))) → RendersIn mode t x out o out
       by true q e = record { answer = m.answer; checks = m.checks; answers = rw (q, e); writes = rw e }
-      by false q e = absurd (other (length (textIn mode.edition t x)) e)
+      by false q e = absurd (other (length (text_in mode.edition t x)) e)
 
   module _ {n : ℕ} (m : MeasuresIn mode t x (Done n)) where
     -- the check passed, and the number is the length
-    admitted : (refuses m.answer ≡ false) × (n ≡ length (textIn mode.edition t x))
+    admitted : (refuses m.answer ≡ false) × (n ≡ length (text_in mode.edition t x))
     unfolding measured
     admitted = by (refuses m.answer) m.answers
       where
-        by : (b : Bool) → Done n ≡ cond b (Refused m.answer) (Done (length (textIn mode.edition t x))) → (b ≡ false) × (n ≡ length (textIn mode.edition t x))
+        by : (b : Bool) → Done n ≡ cond b (Refused m.answer) (Done (length (text_in mode.edition t x))) → (b ≡ false) × (n ≡ length (text_in mode.edition t x))
         by true e = let z : ◌≡◌ {A = ℕ} 0 1 = cc in absurd (omega arith)
         by false e = (refl, cc)
 
     pub no_room : length out < n → RendersIn mode t x out (NoRoom n) out
-    unfolding rendered outputAfter
+    unfolding rendered output_after
     no_room h =
         let p = admitted in
         record { answer = m.answer; checks = m.checks; answers = rw (p.0, ← p.1, lt-ltb (length out) n h); writes = refl }
 
     -- the number is the length
-    pub length-is : n ≡ length (textIn mode.edition t x)
-    length-is = admitted.1
+    pub length_is : n ≡ length (text_in mode.edition t x)
+    length_is = admitted.1
 
-    pub written : {out' : List ℕ} → n ≤ length out → out' ≡ sets out 0 (textIn mode.edition t x) → RendersIn mode t x out (Done n) out'
-    unfolding rendered outputAfter
+    pub written : {out' : List ℕ} → n ≤ length out → out' ≡ sets out 0 (text_in mode.edition t x) → RendersIn mode t x out (Done n) out'
+    unfolding rendered output_after
     written h w =
         let p = admitted in
-        let fits : length (textIn mode.edition t x) ≤ length out = omega (arith, p.1) in
+        let fits : length (text_in mode.edition t x) ≤ length out = omega (arith, p.1) in
         record {
           answer = m.answer;
           checks = m.checks;
           answers = rw (p.0, ← p.1, le-ltb (length out) n h);
-          writes = rw (p.1, w, sets-eq (textIn mode.edition t x) out 0 (omega arith), zero-add);
+          writes = rw (p.1, w, sets-eq (text_in mode.edition t x) out 0 (omega arith), zero-add);
         }
 
 -- ---- no two outcomes satisfy the contract
-pub measures-unique : (mode : Mode) (t x : List ℕ) (o p : Outcome) → MeasuresIn mode t x o → MeasuresIn mode t x p → o ≡ p
-measures-unique mode t x o p f g =
+pub measures_unique : (mode : Mode) (t x : List ℕ) (o p : Outcome) → MeasuresIn mode t x o → MeasuresIn mode t x p → o ≡ p
+measures_unique mode t x o p f g =
     let q = whole.unique mode t x f.answer g.answer f.checks g.checks in
-    f.answers ∙ ap (λ (a : Answer). measured a (textIn mode.edition t x)) q ∙ sym g.answers
+    f.answers ∙ ap (λ (a : Answer). measured a (text_in mode.edition t x)) q ∙ sym g.answers
 
-pub renders-unique : (mode : Mode) (t x out : List ℕ) (o p : Outcome) (l m : List ℕ) → RendersIn mode t x out o l → RendersIn mode t x out p m → (o ≡ p) × (l ≡ m)
-renders-unique mode t x out o p l m f g =
-    let text = textIn mode.edition t x in
+pub renders_unique : (mode : Mode) (t x out : List ℕ) (o p : Outcome) (l m : List ℕ) → RendersIn mode t x out o l → RendersIn mode t x out p m → (o ≡ p) × (l ≡ m)
+renders_unique mode t x out o p l m f g =
+    let text = text_in mode.edition t x in
     let q = whole.unique mode t x f.answer g.answer f.checks g.checks in
     let s : o ≡ p = f.answers ∙ ap (λ (a : Answer). rendered a (length out) text) q ∙ sym g.answers in
-    (s, f.writes ∙ ap (λ (u : Outcome). outputAfter u text out) s ∙ sym g.writes)
+    (s, f.writes ∙ ap (λ (u : Outcome). output_after u text out) s ∙ sym g.writes)
 
 -- the counting pass and the writing pass agree: where there is room for what measure answers, render answers the same
 pub agree : (mode : Mode) (t x out out' : List ℕ) (o p : Outcome) → ((n : ℕ) → o ≡ Done n → n ≤ length out) → MeasuresIn mode t x o → RendersIn mode t x out p out' → p ≡ o
 agree mode t x out out' (Done n) p room m r =
-    (renders-unique mode t x out p (Done n) out' _ r (written out m (room n refl) refl)).0
+    (renders_unique mode t x out p (Done n) out' _ r (written out m (room n refl) refl)).0
 agree mode t x out out' (Refused a) p room m r =
-    (renders-unique mode t x out p (Refused a) out' out r (kept out (λ n e. let z : ◌≡◌ {A = ℕ} 0 1 = cc in omega arith) m)).0
+    (renders_unique mode t x out p (Refused a) out' out r (kept out (λ n e. let z : ◌≡◌ {A = ℕ} 0 1 = cc in omega arith) m)).0
 agree mode t x out out' (NoRoom k) p room m r =
-    (renders-unique mode t x out p (NoRoom k) out' out r (kept out (λ n e. let z : ◌≡◌ {A = ℕ} 0 1 = cc in omega arith) m)).0
+    (renders_unique mode t x out p (NoRoom k) out' out r (kept out (λ n e. let z : ◌≡◌ {A = ℕ} 0 1 = cc in omega arith) m)).0
 
 -- ---- a number is one of 01's, and a place is far below 2^32, so that the two can be told apart in one number
 pub number_small : (o : Outcome) → number_of o < 16
@@ -148,39 +148,39 @@ Small o = place_of o < 2 ^ 32
 
 module _ {mode : Mode} {t x : List ℕ} {a : Answer} (c : ChecksIn mode t x a) (inBytes : (k : ℕ) → get_or t k 0 < 256) where
   -- the check's refusal, or what an admitted text comes to
-  refused-or : (o : Outcome) → (length (textIn mode.edition t x) < 2 ^ 32 → Small o) → Small (cond (refuses a) (Refused a) o)
+  refused_or : (o : Outcome) → (length (text_in mode.edition t x) < 2 ^ 32 → Small o) → Small (cond (refuses a) (Refused a) o)
   unfolding refuses
-  refused-or o h = by (eqb (tree.number_of a) 0) refl
+  refused_or o h = by (eqb (tree.number_of a) 0) refl
     where
       by : (b : Bool) → eqb (tree.number_of a) 0 ≡ b → Small (cond (not b) (Refused a) o)
-      by true e = h (text-short c (tree.number_of a) refl (eqb-true (tree.number_of a) 0 e) inBytes)
-      by false e = omega (arith, place-small c)
+      by true e = h (text_short c (tree.number_of a) refl (eqb-true (tree.number_of a) 0 e) inBytes)
+      by false e = omega (arith, place_small c)
 
-  measured-small : Small (measured a (textIn mode.edition t x))
+  measured_small : Small (measured a (text_in mode.edition t x))
   unfolding measured
-  measured-small = refused-or (Done (length (textIn mode.edition t x))) (λ h. h)
+  measured_small = refused_or (Done (length (text_in mode.edition t x))) (λ h. h)
 
-  rendered-small : (size : ℕ) → Small (rendered a size (textIn mode.edition t x))
+  rendered_small : (size : ℕ) → Small (rendered a size (text_in mode.edition t x))
   unfolding rendered
-  rendered-small size = refused-or _ (λ h. by h (ltb size (length (textIn mode.edition t x))))
+  rendered_small size = refused_or _ (λ h. by h (ltb size (length (text_in mode.edition t x))))
     where
-      by : length (textIn mode.edition t x) < 2 ^ 32 → (b : Bool) → Small (cond b (NoRoom (length (textIn mode.edition t x))) (Done (length (textIn mode.edition t x))))
+      by : length (text_in mode.edition t x) < 2 ^ 32 → (b : Bool) → Small (cond b (NoRoom (length (text_in mode.edition t x))) (Done (length (text_in mode.edition t x))))
       by h true = h
       by h false = h
 
-pub measures-small : {mode : Mode} {t x : List ℕ} {o : Outcome} → ((k : ℕ) → get_or t k 0 < 256) → MeasuresIn mode t x o → place_of o < 2 ^ 32
-measures-small b m = rw m.answers (measured-small m.checks b)
+pub measures_small : {mode : Mode} {t x : List ℕ} {o : Outcome} → ((k : ℕ) → get_or t k 0 < 256) → MeasuresIn mode t x o → place_of o < 2 ^ 32
+measures_small b m = rw m.answers (measured_small m.checks b)
 
-pub renders-small : {mode : Mode} {t x out out' : List ℕ} {o : Outcome} → ((k : ℕ) → get_or t k 0 < 256) → RendersIn mode t x out o out' → place_of o < 2 ^ 32
-renders-small {mode} {t} {x} {out} b m = rw m.answers (rendered-small m.checks b (length out))
+pub renders_small : {mode : Mode} {t x out out' : List ℕ} {o : Outcome} → ((k : ℕ) → get_or t k 0 < 256) → RendersIn mode t x out o out' → place_of o < 2 ^ 32
+renders_small {mode} {t} {x} {out} b m = rw m.answers (rendered_small m.checks b (length out))
 
 -- ---- what was written fits the output
-pub done-fits : {mode : Mode} {t x out out' : List ℕ} {n : ℕ} → RendersIn mode t x out (Done n) out' → n ≤ length out
+pub done_fits : {mode : Mode} {t x out out' : List ℕ} {n : ℕ} → RendersIn mode t x out (Done n) out' → n ≤ length out
 unfolding rendered
-done-fits {mode} {t} {x} {out} {out'} {n} r = by (refuses r.answer) (ltb (length out) (length (textIn mode.edition t x))) refl r.answers
+done_fits {mode} {t} {x} {out} {out'} {n} r = by (refuses r.answer) (ltb (length out) (length (text_in mode.edition t x))) refl r.answers
   where
-    by : (a b : Bool) → ltb (length out) (length (textIn mode.edition t x)) ≡ b
-        → Done n ≡ cond a (Refused r.answer) (cond b (NoRoom (length (textIn mode.edition t x))) (Done (length (textIn mode.edition t x)))) → n ≤ length out
+    by : (a b : Bool) → ltb (length out) (length (text_in mode.edition t x)) ≡ b
+        → Done n ≡ cond a (Refused r.answer) (cond b (NoRoom (length (text_in mode.edition t x))) (Done (length (text_in mode.edition t x)))) → n ≤ length out
     by true b q e = let z : ◌≡◌ {A = ℕ} 0 1 = cc in absurd (omega arith)
     by false true q e = let z : ◌≡◌ {A = ℕ} 0 1 = cc in absurd (omega arith)
-    by false false q e = let z : n ≡ length (textIn mode.edition t x) = cc in omega (arith, ltb-false (length out) (length (textIn mode.edition t x)) q)
+    by false false q e = let z : n ≡ length (text_in mode.edition t x) = cc in omega (arith, ltb-false (length out) (length (text_in mode.edition t x)) q)

@@ -6,7 +6,7 @@ use Rattle.std.proofs.lemmas.Bool.{not-false}
 use Rattle.mode.specs.declared.Mode.{Mode}
 use Rattle.tree.specs.Check as tree
 use Rattle.tree.specs.declared.Answer.{Answer}
-use Rattle.rules.specs.Whole.{switchedOff, off-looser, looser}
+use Rattle.rules.specs.Whole.{switched_off, off_looser, looser}
 use Rattle.render.specs.declared.Outcome.{Outcome}
 use Rattle.render.specs.declared.Outcome.TheVariants.{Done, Refused}
 use Rattle.render.specs.Render.{refuses, measured, rendered, MeasuresIn, RendersIn}
@@ -22,21 +22,21 @@ admits a other {n} e = eqb-true (tree.number_of a) 0 (not-false (eqb (tree.numbe
 
 -- ---- the switch
 module _ (mode : Mode) {t x : List ℕ} {n : ℕ} where
-  pub measured-off : MeasuresIn mode t x (Done n) → MeasuresIn (switchedOff mode) t x (Done n)
+  pub measured_off : MeasuresIn mode t x (Done n) → MeasuresIn (switched_off mode) t x (Done n)
   unfolding measured
-  measured-off m =
+  measured_off m =
       record {
         answer = m.answer;
-        checks = looser (switchedOff mode) mode (off-looser mode) t x m.answer (admits m.answer _ m.answers) m.checks;
+        checks = looser (switched_off mode) mode (off_looser mode) t x m.answer (admits m.answer _ m.answers) m.checks;
         answers = m.answers;
       }
 
-  pub rendered-off : {out out' : List ℕ} → RendersIn mode t x out (Done n) out' → RendersIn (switchedOff mode) t x out (Done n) out'
+  pub rendered_off : {out out' : List ℕ} → RendersIn mode t x out (Done n) out' → RendersIn (switched_off mode) t x out (Done n) out'
   unfolding rendered
-  rendered-off r =
+  rendered_off r =
       record {
         answer = r.answer;
-        checks = looser (switchedOff mode) mode (off-looser mode) t x r.answer (admits r.answer _ r.answers) r.checks;
+        checks = looser (switched_off mode) mode (off_looser mode) t x r.answer (admits r.answer _ r.answers) r.checks;
         answers = r.answers;
         writes = r.writes;
       }

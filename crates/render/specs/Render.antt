@@ -9,16 +9,16 @@ use Rattle.tree.specs.Check as tree
 use Rattle.tree.specs.Check.{ChecksIn}
 use Rattle.tree.specs.declared.Answer.{Answer}
 use Rattle.tokens.specs.Tokens.{text_of}
-use Rattle.tokens.specs.Tokens.{inEdition}
+use Rattle.tokens.specs.Tokens.{in_edition}
 use Rattle.render.specs.declared.Outcome.{Outcome}
 use Rattle.render.specs.declared.Outcome.TheVariants.{Done, Refused, NoRoom}
 
 -- the text of a tree t, whose parts are of a text x, in an edition; and as 01 has it, in the crate's
-abbrev pub textIn : Edition → List ℕ → List ℕ → List ℕ
-textIn v t x = text_of (inEdition t x v)
+abbrev pub text_in : Edition → List ℕ → List ℕ → List ℕ
+text_in v t x = text_of (in_edition t x v)
 
-abbrev pub textFrom : List ℕ → List ℕ → List ℕ
-textFrom = textIn Crate
+abbrev pub text_from : List ℕ → List ℕ → List ℕ
+text_from = text_in Crate
 
 -- the check refuses
 unfoldable pub refuses : Answer → Bool
@@ -32,23 +32,23 @@ unfoldable pub rendered : Answer → ℕ → List ℕ → Outcome
 rendered a size text = first ((refuses a, Refused a) ∷ (ltb size (length text), NoRoom (length text)) ∷ []) (Done (length text))
 
 -- "A refusal writes nothing; success writes exactly the bytes and nothing beyond them."
-unfoldable pub outputAfter : Outcome → List ℕ → List ℕ → List ℕ
-outputAfter (Done n) text out = text ++ drop n out
-outputAfter (Refused a) text out = out
-outputAfter (NoRoom n) text out = out
+unfoldable pub output_after : Outcome → List ℕ → List ℕ → List ℕ
+output_after (Done n) text out = text ++ drop n out
+output_after (Refused a) text out = out
+output_after (NoRoom n) text out = out
 
 -- what measure does with a tree t and a text x
 pub record MeasuresIn (m : Mode) (t x : List ℕ) (outcome : Outcome) : Type 0 where
   pub answer : Answer
   pub checks : ChecksIn m t x answer
-  pub answers : outcome ≡ measured answer (textIn m.edition t x)
+  pub answers : outcome ≡ measured answer (text_in m.edition t x)
 
 -- what render does with them and an output
 pub record RendersIn (m : Mode) (t x out : List ℕ) (outcome : Outcome) (out' : List ℕ) : Type 0 where
   pub answer : Answer
   pub checks : ChecksIn m t x answer
-  pub answers : outcome ≡ rendered answer (length out) (textIn m.edition t x)
-  pub writes : out' ≡ outputAfter outcome (textIn m.edition t x) out
+  pub answers : outcome ≡ rendered answer (length out) (text_in m.edition t x)
+  pub writes : out' ≡ output_after outcome (text_in m.edition t x) out
 
 -- 01 as it is: the switch is off, and the edition is the crate's
 abbrev pub Measures : List ℕ → List ℕ → Outcome → Type 0

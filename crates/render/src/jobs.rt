@@ -6,7 +6,7 @@ ghost use Rattle.mode.specs.Options.{mode_of};
 ghost use Rattle.utf8.specs.Rfc3629.{Encoded};
 ghost use Rattle.spelling.specs.Table.{bytes};
 ghost use Rattle.tree.specs.Check.{longest, ChecksIn};
-ghost use Rattle.tokens.specs.Ample.{ampleFor};
+ghost use Rattle.tokens.specs.Ample.{ample_for};
 ghost use Rattle.render.specs.Render.{RendersIn, number_of, place_of};
 ghost use Rattle.render.specs.Jobs.{answered as answered', written, outside as outside', Single, RendersJobs};
 
@@ -90,7 +90,7 @@ fn outside(job: Job, trees: &[u8]) -> bool
 // Room that is ample for the text of a tree that the check admits.
 fn ample(tree: &[u8]) -> u64
     requires { length tree.now ≤ longest }
-    ensures { result ≡ ampleFor tree.now }
+    ensures { result ≡ ample_for tree.now }
 {
     let count = record::count(tree);
     let mut lengths: u64 = 0;

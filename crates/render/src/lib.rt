@@ -4,7 +4,7 @@
 ghost use Rattle.std.specs.Prelude.{◌≡◌, ◌≤◌, length as length'};
 ghost use Rattle.std.proofs.lemmas.List.Edits.{sets};
 ghost use Rattle.spelling.specs.Table.{bytes};
-ghost use Rattle.render.specs.Render.{textIn, MeasuresIn, RendersIn, number_of, place_of};
+ghost use Rattle.render.specs.Render.{text_in, MeasuresIn, RendersIn, number_of, place_of};
 ghost use Rattle.tree.specs.Check.{ChecksIn};
 ghost use Rattle.render.specs.Steps.{Writes, Drafted};
 
@@ -90,8 +90,8 @@ fn fair_copy(
     edition: Edition,
     length: usize,
 )
-    requires { (pool.now ≡ bytes) × ((length ≡ length' (textIn edition tree.now text.now)) × ((length ≤ length' out.old) × Drafted edition tree.now text.now draft.now)) }
-    ensures { out.new ≡ sets out.old 0 (textIn edition tree.now text.now) }
+    requires { (pool.now ≡ bytes) × ((length ≡ length' (text_in edition tree.now text.now)) × ((length ≤ length' out.old) × Drafted edition tree.now text.now draft.now)) }
+    ensures { out.new ≡ sets out.old 0 (text_in edition tree.now text.now) }
 {
     if length <= draft.len() {
         bytes::copy(&draft[..length], out);

@@ -7,6 +7,6 @@ use Rattle.append.specs.Append.{Appends}
 use Rattle.append.specs.Lists.{succeeds}
 
 -- where append answers that it added, the bytes had room
-pub had-room : (rec : Stream) (out : List ℕ) (token : ℕ) (value : List ℕ) (a : Answer) (rec' : Stream) (out' : List ℕ) (n : ℕ)
+pub had_room : (rec : Stream) (out : List ℕ) (token : ℕ) (value : List ℕ) (a : Answer) (rec' : Stream) (out' : List ℕ) (n : ℕ)
     → Appends rec out token value a rec' out' → a ≡ Added n → rec'.count ≤ length out
-had-room rec out token value a rec' out' n x e = (succeeds {n = n} (rw e at x)).fits
+had_room rec out token value a rec' out' n x e = (succeeds {n = n} (rw e at x)).fits

@@ -1,4 +1,4 @@
--- 02, viii: "a without-rowid text accepted only if its two parts are WITHOUT and ROWID, each letter in either case." The parts are those of 01, section 4.
+-- 02, viii: "a without_rowid_lem text accepted only if its two parts are WITHOUT and ROWID, each letter in either case." The parts are those of 01, section 4.
 use Rattle.std.specs.Prelude.{ℕ, ◌-◌, List, [], ◌∷◌, map, Bool, false, cond, ◌&&◌, leb, take, drop}
 use Prim.Native.String.{String}
 use Rattle.laws.specs.Bytes.{same}
@@ -10,20 +10,20 @@ abbrev pub upper : ℕ → ℕ
 upper b = cond (leb 0x61 b && leb b 0x7A) (b - 0x20) b
 
 -- whether bytes in capitals are a word
-abbrev pub isWord : List ℕ → List ℕ → Bool
-isWord s w = same (map upper s) w
+abbrev pub is_word : List ℕ → List ℕ → Bool
+is_word s w = same (map upper s) w
 
 -- whether a part of a text is
-abbrev pub partIs : List ℕ → Span → String → Bool
-partIs x p w = isWord (take p.len (drop p.start x)) (ascii w)
+abbrev pub part_is : List ℕ → Span → String → Bool
+part_is x p w = is_word (take p.len (drop p.start x)) (ascii w)
 
 -- whether the parts of a text are two, and these
-abbrev pub areTheTwo : List ℕ → List Span → Bool
-areTheTwo x [] = false
-areTheTwo x (p ∷ []) = false
-areTheTwo x (p ∷ q ∷ []) = partIs x p "WITHOUT" && partIs x q "ROWID"
-areTheTwo x (p ∷ q ∷ r ∷ ps) = false
+abbrev pub are_the_two : List ℕ → List Span → Bool
+are_the_two x [] = false
+are_the_two x (p ∷ []) = false
+are_the_two x (p ∷ q ∷ []) = part_is x p "WITHOUT" && part_is x q "ROWID"
+are_the_two x (p ∷ q ∷ r ∷ ps) = false
 
 -- what is accepted
 unfoldable pub names : List ℕ → Bool
-names x = areTheTwo x (parts x)
+names x = are_the_two x (parts x)

@@ -1,6 +1,6 @@
 // Whether a text's two parts are WITHOUT and ROWID, each letter in either case (02, viii).
 ghost use Rattle.std.specs.Prelude.{◌≡◌, ◌+◌, ◌≤◌, length, take, drop};
-ghost use Rattle.rowid.specs.Rowid.{upper as upper', isWord, names as names'};
+ghost use Rattle.rowid.specs.Rowid.{upper as upper', is_word as is_word', names as names'};
 
 const SMALL_A: u8 = b'a';
 
@@ -24,7 +24,7 @@ fn upper(b: u8) -> u8
 
 // Whether bytes in capitals are a word.
 fn is_word(bytes: &[u8], word: &[u8]) -> bool
-    ensures { result ≡ isWord bytes.now word.now }
+    ensures { result ≡ is_word' bytes.now word.now }
 {
     if bytes.len() != word.len() {
         return false;
@@ -42,7 +42,7 @@ fn is_word(bytes: &[u8], word: &[u8]) -> bool
 // Whether a part of a text in capitals is a word.
 fn part_is(text: &[u8], start: usize, len: usize, word: &[u8]) -> bool
     requires { start + len ≤ length text.now }
-    ensures { result ≡ isWord (take len (drop start text.now)) word.now }
+    ensures { result ≡ is_word' (take len (drop start text.now)) word.now }
 {
     let end = start + len;
     is_word(&text[start..end], word)

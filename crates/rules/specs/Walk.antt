@@ -14,25 +14,25 @@ use Rattle.laws.specs.Bytes.{same, equal}
 use Rattle.laws.specs.First.{first}
 use Rattle.laws.specs.Tests.{and_right}
 use Rattle.mode.specs.declared.Mode.{Mode}
-use Rattle.record.specs.Record.{recordAt, count, markOk}
+use Rattle.record.specs.Record.{record_at, count, mark_ok}
 use Rattle.record.specs.declared.Record.{Record}
 use Rattle.grammar.specs.Kind.{LIST, RUN}
 use Rattle.grammar.specs.Shape.{Class}
 use Rattle.grammar.specs.Grammar.{shape}
 use Rattle.grammar.specs.Slots.{slots_of, elements}
-use Rattle.grammar.specs.Classes.{classes, classesHeld, class_at, tokenAt, token-is}
-use Rattle.grammar.specs.Packed.{kindsHeld, each, row_of, turn, along, allHeld}
-use Rattle.grammar.specs.Laws.{same-along, same-held, list-along, slots-along}
-use Rattle.tree.specs.Check.{Place, place, holds, fits, inside, deepest, faultsIn, scanIn, scan}
-use Rattle.tree.specs.Steps.{childless, fitting-kind, along-split, run_holds, row-holds, row-held, held-split, slots-counted}
+use Rattle.grammar.specs.Classes.{classes, classes_held, class_at, token_at, token_is}
+use Rattle.grammar.specs.Packed.{kinds_held, each, row_of, turn, along, all_held}
+use Rattle.grammar.specs.Laws.{same_along, same_held, list_along, slots_along}
+use Rattle.tree.specs.Check.{Place, place, holds, fits, inside, deepest, faults_in, scan_in, scan}
+use Rattle.tree.specs.Steps.{childless, fitting_kind, along_split, run_holds, row_holds, row_held, held_split, slots_counted}
 use Rattle.tree.specs.declared.Answer.{Answer}
 use Rattle.tree.specs.declared.Answer.TheVariants.{Mark, Misfit, Outside, Deep}
-use Rattle.rules.specs.Rules.{ruleAt, rulesOf, ruleFault, soundTo, stopped, behind, broken}
+use Rattle.rules.specs.Rules.{rule_at, rules_of, rule_fault, sound_to, stopped, behind, broken}
 use Rattle.rules.specs.declared.Found.{Found}
 
 -- 01's scan of the records from i on, in these places, finds those before end sound
 abbrev pub Reached : List ℕ → List ℕ → ℕ → ℕ → List Place → Type 0
-Reached t x end i ps = i < end → soundTo t (scan t x (count t - i) i ps) ≡ end
+Reached t x end i ps = i < end → sound_to t (scan t x (count t - i) i ps) ≡ end
 
 -- what is broken behind a walk that came to w, where these places are left
 unfoldable pub resumed : Mode → List ℕ → List ℕ → ℕ → Found → List Place → Found
@@ -49,8 +49,8 @@ bytes_of u zero = []
 bytes_of u (suc n) = u % 256 ∷ bytes_of (u / 256) n
 
 pub record Rules (row u n : ℕ) : Type 0 where
-  pub held : allHeld row n ≡ true
-  pub rules : map ruleAt (along row n) ≡ bytes_of u n
+  pub held : all_held row n ≡ true
+  pub rules : map rule_at (along row n) ≡ bytes_of u n
 
 -- n records from an index on stand in a row of places with these rules, and are sound up to an end
 pub record Led (t x : List ℕ) (end i left u n : ℕ) : Type 0 where
@@ -72,8 +72,8 @@ pub record Going (m : Mode) (t x : List ℕ) (end i : ℕ) (ps : List Place) (le
 -- ---- one record
 -- a record before the end: no test refuses it, and what is behind it is sound up to the end
 sound : (t : List ℕ) (end : ℕ) (k f o d : Bool) (i : ℕ) (a : Answer) → i < end
-    → soundTo t (first ((k, Mark i) ∷ (f, Misfit i) ∷ (o, Outside i) ∷ (d, Deep i) ∷ []) a) ≡ end
-    → (f ≡ false) × ((o ≡ false) × (i + 1 < end → (d ≡ false) × (soundTo t a ≡ end)))
+    → sound_to t (first ((k, Mark i) ∷ (f, Misfit i) ∷ (o, Outside i) ∷ (d, Deep i) ∷ []) a) ≡ end
+    → (f ≡ false) × ((o ≡ false) × (i + 1 < end → (d ≡ false) × (sound_to t a ≡ end)))
 sound t end true f o d i a h e = absurd (omega arith)
 sound t end false true o d i a h e = absurd (omega arith)
 sound t end false false true d i a h e = absurd (omega arith)
@@ -82,35 +82,35 @@ sound t end false false false false i a h e = (refl, (refl, λ l. (refl, e)))
 
 module _ (t x : List ℕ) (end i d : ℕ) (c : Class) (ps : List Place) (h : i < end) (reached : Reached t x end i (place d c ∷ ps)) where
   abbrev children : List Place
-  children = map (place (d + 1)) (holds c (recordAt t i))
+  children = map (place (d + 1)) (holds c (record_at t i))
 
   there : i < count t
-  unfolding scanIn
+  unfolding scan_in
   there = by (count t - i) refl (reached h)
     where
-      by : (n : ℕ) → count t - i ≡ n → soundTo t (scan t x n i (place d c ∷ ps)) ≡ end → i < count t
+      by : (n : ℕ) → count t - i ≡ n → sound_to t (scan t x n i (place d c ∷ ps)) ≡ end → i < count t
       by zero q e = absurd (omega arith)
       by (suc n) q e = omega arith
 
-  tested : (fits c (recordAt t i) ≡ true) × ((inside x (recordAt t i) ≡ true) × (i + 1 < end → (d ≤ deepest) × (soundTo t (scan t x (count t - (i + 1)) (i + 1) (children ++ ps)) ≡ end)))
-  unfolding scanIn faultsIn
+  tested : (fits c (record_at t i) ≡ true) × ((inside x (record_at t i) ≡ true) × (i + 1 < end → (d ≤ deepest) × (sound_to t (scan t x (count t - (i + 1)) (i + 1) (children ++ ps)) ≡ end)))
+  unfolding scan_in faults_in
   tested =
-      let r = recordAt t i in
+      let r = record_at t i in
       let n : count t - i ≡ suc (count t - (i + 1)) = omega (arith, there) in
-      let s = sound t end (not (markOk r)) (not (fits c r)) (not (inside x r)) (ltb deepest d) i _ h (rw n at (reached h)) in
+      let s = sound t end (not (mark_ok r)) (not (fits c r)) (not (inside x r)) (ltb deepest d) i _ h (rw n at (reached h)) in
       (not-false (fits c r) s.0, (not-false (inside x r) s.1.0, λ l. (ltb-false deepest d (s.1.1 l).0, (s.1.1 l).1)))
 
-  pub here-fits : fits c (recordAt t i) ≡ true
-  here-fits = tested.0
+  pub here_fits : fits c (record_at t i) ≡ true
+  here_fits = tested.0
 
-  pub here-inside : inside x (recordAt t i) ≡ true
-  here-inside = tested.1.0
+  pub here_inside : inside x (record_at t i) ≡ true
+  here_inside = tested.1.0
 
   pub near : i + 1 < end → d ≤ deepest
   near l = (tested.1.1 l).0
 
-  pub below-reached : Reached t x end (i + 1) (children ++ ps)
-  below-reached l = (tested.1.1 l).1
+  pub below_reached : Reached t x end (i + 1) (children ++ ps)
+  below_reached l = (tested.1.1 l).1
 
 -- ---- the ways of a walk
 module _ (m : Mode) (t x : List ℕ) (end : ℕ) where
@@ -132,38 +132,38 @@ module _ (m : Mode) (t x : List ℕ) (end : ℕ) where
       by false q = record { is = λ rest h. rw q (rw q at (g.is rest h)); on = λ rest h y. absurd (eqb-false w.fault 0 q y) }
 
   module _ {i : ℕ} {ps : List Place} {j d : ℕ} {c : Class} {qs : List Place} (h : j < end) (g : Goes m t x end i ps (behind j) (place d c ∷ qs)) (f : ℕ)
-      (fe : f ≡ ruleFault m x (ruleAt c) (recordAt t j)) where
+      (fe : f ≡ rule_fault m x (rule_at c) (record_at t j)) where
     arrives : (rest : List Place) → Reached t x end i (ps ++ rest) → Reached t x end j (place d c ∷ (qs ++ rest))
     arrives rest reached = g.on rest reached refl
 
-    fits-here : (rest : List Place) → Reached t x end i (ps ++ rest) → fits c (recordAt t j) ≡ true
-    fits-here rest reached = here-fits t x end j d c (qs ++ rest) h (arrives rest reached)
+    fits_here : (rest : List Place) → Reached t x end i (ps ++ rest) → fits c (record_at t j) ≡ true
+    fits_here rest reached = here_fits t x end j d c (qs ++ rest) h (arrives rest reached)
 
-    one-step : (rest : List Place)
+    one_step : (rest : List Place)
         → broken m t x (end - j) j (place d c ∷ (qs ++ rest))
-        ≡ cond (eqb f 0) (broken m t x (end - (j + 1)) (j + 1) (map (place (d + 1)) (holds c (recordAt t j)) ++ (qs ++ rest))) (stopped f j)
+        ≡ cond (eqb f 0) (broken m t x (end - (j + 1)) (j + 1) (map (place (d + 1)) (holds c (record_at t j)) ++ (qs ++ rest))) (stopped f j)
     unfolding broken
-    one-step rest = let n : end - j ≡ suc (end - (j + 1)) = omega arith in rw (n, fe)
+    one_step rest = let n : end - j ≡ suc (end - (j + 1)) = omega arith in rw (n, fe)
 
     -- the next record breaks a rule
     pub breaks : (f ≡ 0 → ⊥) → Goes m t x end i ps (stopped f j) []
     unfolding resumed
     breaks z =
         record {
-          is = λ rest reached. g.is rest reached ∙ one-step rest ∙ rw (ne_eqb f 0 z);
+          is = λ rest reached. g.is rest reached ∙ one_step rest ∙ rw (ne_eqb f 0 z);
           on = λ rest reached y. absurd (z y);
         }
 
     -- or it does not, and all below it, which fits its place, come to w
-    pub passes : f ≡ 0 → {w : Found} → (fits c (recordAt t j) ≡ true → Goes m t x end (j + 1) (map (place (d + 1)) (holds c (recordAt t j))) w [])
+    pub passes : f ≡ 0 → {w : Found} → (fits c (record_at t j) ≡ true → Goes m t x end (j + 1) (map (place (d + 1)) (holds c (record_at t j))) w [])
         → Goes m t x end i ps w qs
     unfolding resumed
     passes z {w} b =
         record {
           is = λ rest reached.
-              g.is rest reached ∙ one-step rest
-              ∙ rw (eq-eqb f 0 z) ((b (fits-here rest reached)).is (qs ++ rest) (below-reached t x end j d c (qs ++ rest) h (arrives rest reached)));
-          on = λ rest reached. (b (fits-here rest reached)).on (qs ++ rest) (below-reached t x end j d c (qs ++ rest) h (arrives rest reached));
+              g.is rest reached ∙ one_step rest
+              ∙ rw (eq-eqb f 0 z) ((b (fits_here rest reached)).is (qs ++ rest) (below_reached t x end j d c (qs ++ rest) h (arrives rest reached)));
+          on = λ rest reached. (b (fits_here rest reached)).on (qs ++ rest) (below_reached t x end j d c (qs ++ rest) h (arrives rest reached));
         }
 
 -- ---- a row from its second place on
@@ -171,89 +171,89 @@ module _ (row u n : ℕ) (r : Rules row u n) (h : 0 < n) where
   both : (c : ℕ) (cs ds : List ℕ) (d : ℕ) → c ∷ cs ≡ d ∷ ds → (c ≡ d) × (cs ≡ ds)
   both c cs ds d e = (cc, cc)
 
-  split : (ruleAt (class_at (row % 256)) ≡ u % 256) × (map ruleAt (along (turn row) (n - 1)) ≡ bytes_of (u / 256) (n - 1))
+  split : (rule_at (class_at (row % 256)) ≡ u % 256) × (map rule_at (along (turn row) (n - 1)) ≡ bytes_of (u / 256) (n - 1))
   split = let z : n ≡ suc (n - 1) = omega arith in both _ _ _ _ (rw z at r.rules)
 
-  pub first-held : row % 256 < classesHeld
-  first-held = (held-split row n h r.held).0
+  pub first_held : row % 256 < classes_held
+  first_held = (held_split row n h r.held).0
 
-  pub first-rule : ruleAt (class_at (row % 256)) ≡ u % 256
-  first-rule = split.0
+  pub first_rule : rule_at (class_at (row % 256)) ≡ u % 256
+  first_rule = split.0
 
   pub others : Rules (turn row) (u / 256) (n - 1)
-  others = record { held = (held-split row n h r.held).1; rules = split.1 }
+  others = record { held = (held_split row n h r.held).1; rules = split.1 }
 
 -- ---- the row of a record's children, with the rules of its kind
-nothing-ruled : (n : ℕ) → bytes_of 0 n ≡ replicate n 0
-nothing-ruled zero = refl
-nothing-ruled (suc n) = rw (nothing-ruled n)
+nothing_ruled : (n : ℕ) → bytes_of 0 n ≡ replicate n 0
+nothing_ruled zero = refl
+nothing_ruled (suc n) = rw (nothing_ruled n)
 
-same-ruled : (c : Class) (n : ℕ) → ruleAt c ≡ 0 → map ruleAt (replicate n c) ≡ bytes_of 0 n
-same-ruled c zero e = refl
-same-ruled c (suc n) e = rw (e, same-ruled c n e)
+same_ruled : (c : Class) (n : ℕ) → rule_at c ≡ 0 → map rule_at (replicate n c) ≡ bytes_of 0 n
+same_ruled c zero e = refl
+same_ruled c (suc n) e = rw (e, same_ruled c n e)
 
 -- no element of a LIST and no TOKEN has a rule, and of the slots of all kinds a CHECK's second alone
-unruled : below (λ n. eqb (ruleAt (elements (class_at n))) 0) classesHeld ≡ true
-unfolding ruleAt elements class_at classes
+unruled : below (λ n. eqb (rule_at (elements (class_at n))) 0) classes_held ≡ true
+unfolding rule_at elements class_at classes
 unruled = refl
 
-slots-ruled : below (λ k. same (map ruleAt (slots_of (shape k))) (bytes_of (rulesOf k) (length (slots_of (shape k))))) kindsHeld ≡ true
-unfolding ruleAt rulesOf slots_of shape
-slots-ruled = refl
+slots_ruled : below (λ k. same (map rule_at (slots_of (shape k))) (bytes_of (rules_of k) (length (slots_of (shape k))))) kinds_held ≡ true
+unfolding rule_at rules_of slots_of shape
+slots_ruled = refl
 
 -- some row has the places of a record's children, and the rules of its kind for them
 pub record Children (c : Class) (r : Record) : Type 0 where
   pub row : ℕ
-  pub rules : Rules row (rulesOf r.kind) r.kids
+  pub rules : Rules row (rules_of r.kind) r.kids
   pub are : holds c r ≡ along row r.kids
 
-module _ (n : ℕ) (r : Record) (h : n < classesHeld) (fe : fits (class_at n) r ≡ true) where
-  of-a-run : r.kind ≡ RUN → Children (class_at n) r
-  unfolding ruleAt rulesOf
-  of-a-run e =
-      let held : tokenAt < classesHeld = omega arith in
-      let none : ruleAt (class_at tokenAt) ≡ 0 = rw token-is in
+module _ (n : ℕ) (r : Record) (h : n < classes_held) (fe : fits (class_at n) r ≡ true) where
+  of_a_run : r.kind ≡ RUN → Children (class_at n) r
+  unfolding rule_at rules_of
+  of_a_run e =
+      let held : token_at < classes_held = omega arith in
+      let none : rule_at (class_at token_at) ≡ 0 = rw token_is in
       record {
-        row = tokenAt * each;
+        row = token_at * each;
         rules = record {
-          held = same-held tokenAt held r.kids;
-          rules = rw (same-along tokenAt held r.kids, e) (same-ruled (class_at tokenAt) r.kids none);
+          held = same_held token_at held r.kids;
+          rules = rw (same_along token_at held r.kids, e) (same_ruled (class_at token_at) r.kids none);
         };
-        are = run_holds (class_at n) r e ∙ sym (same-along tokenAt held r.kids);
+        are = run_holds (class_at n) r e ∙ sym (same_along token_at held r.kids);
       }
 
-  ruled-list : r.kind ≡ LIST → map ruleAt (along (row_of n r.kind) r.kids) ≡ bytes_of (rulesOf r.kind) r.kids
-  unfolding rulesOf
-  ruled-list e =
-      let none = eqb-true (ruleAt (elements (class_at n))) 0 (at (λ m. eqb (ruleAt (elements (class_at m))) 0) classesHeld unruled n h) in
-      rw (list-along n h r.kind e r.kids) (rw e (same-ruled (elements (class_at n)) r.kids none))
+  ruled_list : r.kind ≡ LIST → map rule_at (along (row_of n r.kind) r.kids) ≡ bytes_of (rules_of r.kind) r.kids
+  unfolding rules_of
+  ruled_list e =
+      let none = eqb-true (rule_at (elements (class_at n))) 0 (at (λ m. eqb (rule_at (elements (class_at m))) 0) classes_held unruled n h) in
+      rw (list_along n h r.kind e r.kids) (rw e (same_ruled (elements (class_at n)) r.kids none))
 
-  module _ (no_run : r.kind ≡ RUN → ⊥) (no-list : r.kind ≡ LIST → ⊥) where
-    ruled-slots : map ruleAt (along (row_of n r.kind) r.kids) ≡ bytes_of (rulesOf r.kind) r.kids
-    ruled-slots =
-        let k = fitting-kind n r h fe in
-        rw (slots-counted n r h fe no_run no-list, slots-along r.kind k no-list n)
-        (equal (map ruleAt (slots_of (shape r.kind))) (bytes_of (rulesOf r.kind) (length (slots_of (shape r.kind))))
-        (at (λ j. same (map ruleAt (slots_of (shape j))) (bytes_of (rulesOf j) (length (slots_of (shape j))))) kindsHeld slots-ruled r.kind k))
+  module _ (no_run : r.kind ≡ RUN → ⊥) (no_list : r.kind ≡ LIST → ⊥) where
+    ruled_slots : map rule_at (along (row_of n r.kind) r.kids) ≡ bytes_of (rules_of r.kind) r.kids
+    ruled_slots =
+        let k = fitting_kind n r h fe in
+        rw (slots_counted n r h fe no_run no_list, slots_along r.kind k no_list n)
+        (equal (map rule_at (slots_of (shape r.kind))) (bytes_of (rules_of r.kind) (length (slots_of (shape r.kind))))
+        (at (λ j. same (map rule_at (slots_of (shape j))) (bytes_of (rules_of j) (length (slots_of (shape j))))) kinds_held slots_ruled r.kind k))
 
-  not-a-run : (r.kind ≡ RUN → ⊥) → map ruleAt (along (row_of n r.kind) r.kids) ≡ bytes_of (rulesOf r.kind) r.kids
-  not-a-run no_run = by (eqb r.kind LIST) refl
+  not_a_run : (r.kind ≡ RUN → ⊥) → map rule_at (along (row_of n r.kind) r.kids) ≡ bytes_of (rules_of r.kind) r.kids
+  not_a_run no_run = by (eqb r.kind LIST) refl
     where
-      by : (b : Bool) → eqb r.kind LIST ≡ b → map ruleAt (along (row_of n r.kind) r.kids) ≡ bytes_of (rulesOf r.kind) r.kids
-      by true e = ruled-list (eqb-true r.kind LIST e)
-      by false e = ruled-slots no_run (eqb-false r.kind LIST e)
+      by : (b : Bool) → eqb r.kind LIST ≡ b → map rule_at (along (row_of n r.kind) r.kids) ≡ bytes_of (rules_of r.kind) r.kids
+      by true e = ruled_list (eqb-true r.kind LIST e)
+      by false e = ruled_slots no_run (eqb-false r.kind LIST e)
 
-  pub children-of : Children (class_at n) r
-  children-of = by (eqb r.kind RUN) refl
+  pub children_of : Children (class_at n) r
+  children_of = by (eqb r.kind RUN) refl
     where
       by : (b : Bool) → eqb r.kind RUN ≡ b → Children (class_at n) r
-      by true e = of-a-run (eqb-true r.kind RUN e)
+      by true e = of_a_run (eqb-true r.kind RUN e)
       by false e =
           let no_run = eqb-false r.kind RUN e in
           record {
             row = row_of n r.kind;
-            rules = record { held = row-held n r h fe no_run; rules = not-a-run no_run };
-            are = row-holds n r h fe no_run;
+            rules = record { held = row_held n r h fe no_run; rules = not_a_run no_run };
+            are = row_holds n r h fe no_run;
           }
 
 -- ---- a turn of the loop, at a record before the end, with some place left for it
@@ -264,70 +264,70 @@ module _ {m : Mode} {t x : List ℕ} {end i : ℕ} {ps : List Place} {left next 
   abbrev left_over : List Place
   left_over = map (place (65 - left)) (along (turn g.row) (n - 1))
 
-  goes-here : Goes m t x end i ps (behind next) (place (65 - left) here ∷ left_over)
-  goes-here = rw (along-split g.row n some) at g.goes
+  goes_here : Goes m t x end i ps (behind next) (place (65 - left) here ∷ left_over)
+  goes_here = rw (along_split g.row n some) at g.goes
 
   -- where the record is sound, its part is inside the text and there is depth left for its children
   module _ (rest : List Place) (reached : Reached t x end i (ps ++ rest)) where
-    reached-here : Reached t x end next (place (65 - left) here ∷ (left_over ++ rest))
-    reached-here = goes-here.on rest reached refl
+    reached_here : Reached t x end next (place (65 - left) here ∷ (left_over ++ rest))
+    reached_here = goes_here.on rest reached refl
 
-    pub turn_inside : inside x (recordAt t next) ≡ true
-    turn_inside = here-inside t x end next (65 - left) here (left_over ++ rest) h reached-here
+    pub turn_inside : inside x (record_at t next) ≡ true
+    turn_inside = here_inside t x end next (65 - left) here (left_over ++ rest) h reached_here
 
     module _ (more : next + 1 < end) (deep : left ≤ 64) where
-      pub turn-left : 1 ≤ left
-      turn-left = omega (arith, near t x end next (65 - left) here (left_over ++ rest) h reached-here more)
+      pub turn_left : 1 ≤ left
+      turn_left = omega (arith, near t x end next (65 - left) here (left_over ++ rest) h reached_here more)
 
-      pub turn-led : Led t x end (next + 1) (left - 1) (rulesOf (recordAt t next).kind) (recordAt t next).kids
-      turn-led =
-          let fe = here-fits t x end next (65 - left) here (left_over ++ rest) h reached-here in
-          let b = children-of (g.row % 256) (recordAt t next) (first-held g.row u n g.rules some) fe in
-          let d : 65 - left + 1 ≡ 65 - (left - 1) = omega (arith, turn-left) in
+      pub turn_led : Led t x end (next + 1) (left - 1) (rules_of (record_at t next).kind) (record_at t next).kids
+      turn_led =
+          let fe = here_fits t x end next (65 - left) here (left_over ++ rest) h reached_here in
+          let b = children_of (g.row % 256) (record_at t next) (first_held g.row u n g.rules some) fe in
+          let d : 65 - left + 1 ≡ 65 - (left - 1) = omega (arith, turn_left) in
           record {
             row = b.row;
             rules = b.rules;
             rest = left_over ++ rest;
-            reached = rw (b.are, d) at (below-reached t x end next (65 - left) here (left_over ++ rest) h reached-here);
+            reached = rw (b.are, d) at (below_reached t x end next (65 - left) here (left_over ++ rest) h reached_here);
           }
 
-  module _ (f : ℕ) (fe : f ≡ ruleFault m x (u % 256) (recordAt t next)) where
-    fault-here : f ≡ ruleFault m x (ruleAt here) (recordAt t next)
-    fault-here = rw (first-rule g.row u n g.rules some) fe
+  module _ (f : ℕ) (fe : f ≡ rule_fault m x (u % 256) (record_at t next)) where
+    fault_here : f ≡ rule_fault m x (rule_at here) (record_at t next)
+    fault_here = rw (first_rule g.row u n g.rules some) fe
 
-    pub turn-breaks : (f ≡ 0 → ⊥) → Goes m t x end i ps (stopped f next) []
-    turn-breaks z = breaks m t x end h goes-here f fault-here z
+    pub turn_breaks : (f ≡ 0 → ⊥) → Goes m t x end i ps (stopped f next) []
+    turn_breaks z = breaks m t x end h goes_here f fault_here z
 
     -- all below the record come to w
-    module _ (z : f ≡ 0) {w : Found} (below : fits here (recordAt t next) ≡ true → Goes m t x end (next + 1) (map (place (65 - left + 1)) (holds here (recordAt t next))) w []) where
-      on-all : Goes m t x end i ps w left_over
-      on-all = passes m t x end h goes-here f fault-here z below
+    module _ (z : f ≡ 0) {w : Found} (below : fits here (record_at t next) ≡ true → Goes m t x end (next + 1) (map (place (65 - left + 1)) (holds here (record_at t next))) w []) where
+      on_all : Goes m t x end i ps w left_over
+      on_all = passes m t x end h goes_here f fault_here z below
 
-      pub turn-found : (w.fault ≡ 0 → ⊥) → Goes m t x end i ps w []
-      turn-found y = ends m t x end (λ e. absurd (y e)) on-all
+      pub turn_found : (w.fault ≡ 0 → ⊥) → Goes m t x end i ps w []
+      turn_found y = ends m t x end (λ e. absurd (y e)) on_all
 
       pub turn_on : w.fault ≡ 0 → Going m t x end i ps left w.at (u / 256) (n - 1)
       turn_on y =
           let e : behind w.at ≡ w = sym (ap (λ (k : ℕ). stopped k w.at) y) in
-          record { row = turn g.row; rules = others g.row u n g.rules some; goes = rw e on-all }
+          record { row = turn g.row; rules = others g.row u n g.rules some; goes = rw e on_all }
 
   -- by the walk below it, or since there is nothing below it before the end
-  pub walked-below : {w : Found} → 1 ≤ left → left ≤ 64 → Finds m t x end (next + 1) (left - 1) (rulesOf (recordAt t next).kind) (recordAt t next).kids w
-      → fits here (recordAt t next) ≡ true → Goes m t x end (next + 1) (map (place (65 - left + 1)) (holds here (recordAt t next))) w []
-  walked-below l deep found fe =
-      let b = children-of (g.row % 256) (recordAt t next) (first-held g.row u n g.rules some) fe in
+  pub walked_below : {w : Found} → 1 ≤ left → left ≤ 64 → Finds m t x end (next + 1) (left - 1) (rules_of (record_at t next).kind) (record_at t next).kids w
+      → fits here (record_at t next) ≡ true → Goes m t x end (next + 1) (map (place (65 - left + 1)) (holds here (record_at t next))) w []
+  walked_below l deep found fe =
+      let b = children_of (g.row % 256) (record_at t next) (first_held g.row u n g.rules some) fe in
       let d : 65 - left + 1 ≡ 65 - (left - 1) = omega arith in
       rw (d, b.are) (found b.row b.rules)
 
-  pub none_below : (not (eqb (recordAt t next).kids 0) && ltb (next + 1) end) ≡ false
-      → fits here (recordAt t next) ≡ true → Goes m t x end (next + 1) (map (place (65 - left + 1)) (holds here (recordAt t next))) (behind (next + 1)) []
-  none_below e fe = by (eqb (recordAt t next).kids 0) refl e
+  pub none_below : (not (eqb (record_at t next).kids 0) && ltb (next + 1) end) ≡ false
+      → fits here (record_at t next) ≡ true → Goes m t x end (next + 1) (map (place (65 - left + 1)) (holds here (record_at t next))) (behind (next + 1)) []
+  none_below e fe = by (eqb (record_at t next).kids 0) refl e
     where
-      by : (b : Bool) → eqb (recordAt t next).kids 0 ≡ b → (not b && ltb (next + 1) end) ≡ false
-          → Goes m t x end (next + 1) (map (place (65 - left + 1)) (holds here (recordAt t next))) (behind (next + 1)) []
-      by true q y = rw (childless here (recordAt t next) fe (eqb-true (recordAt t next).kids 0 q)) (start m t x end (next + 1) [])
+      by : (b : Bool) → eqb (record_at t next).kids 0 ≡ b → (not b && ltb (next + 1) end) ≡ false
+          → Goes m t x end (next + 1) (map (place (65 - left + 1)) (holds here (record_at t next))) (behind (next + 1)) []
+      by true q y = rw (childless here (record_at t next) fe (eqb-true (record_at t next).kids 0 q)) (start m t x end (next + 1) [])
       by false q y = ends m t x end (λ _. ltb-false (next + 1) end y) (start m t x end (next + 1) _)
 
 -- the code's test for that
-pub more-below : (k j end : ℕ) → (not (eqb k 0) && ltb j end) ≡ true → j < end
-more-below k j end h = ltb-true j end (and_right (not (eqb k 0)) (ltb j end) h)
+pub more_below : (k j end : ℕ) → (not (eqb k 0) && ltb j end) ≡ true → j < end
+more_below k j end h = ltb-true j end (and_right (not (eqb k 0)) (ltb j end) h)

@@ -10,70 +10,70 @@ use Rattle.std.proofs.lemmas.Bool.{false≢true}
 use Rattle.std.proofs.Math.Dec.{eqb}
 use borrow.Author.Tests.{eqb-true}
 use Rattle.laws.specs.First.{first}
-use Rattle.mode.specs.Options.{isSqlite, plain}
+use Rattle.mode.specs.Options.{is_sqlite, plain}
 use Rattle.mode.specs.declared.Edition.{Edition}
 use Rattle.mode.specs.declared.Edition.TheVariants.{Crate, Sqlite}
 use Rattle.mode.specs.declared.Mode.{Mode}
 use Rattle.utf8.specs.Rfc3629 as utf8
 use Rattle.utf8.specs.declared.Encoding.{Encoding}
-use Rattle.record.specs.Record.{recordAt, count, markOk}
+use Rattle.record.specs.Record.{record_at, count, mark_ok}
 use Rattle.grammar.specs.Grammar.{root}
-use Rattle.grammar.specs.Classes.{classes, class_at, rootAt, root_is}
-use Rattle.tree.specs.Check.{Place, place, holds, fits, inside, swallows, misnames, deepest, faultsIn, scanIn, scan, malformed, longest, answer_in, answerTo, ChecksIn, number_of}
-use Rattle.tree.specs.Bounds.{tree-short}
+use Rattle.grammar.specs.Classes.{classes, class_at, root_at, root_is}
+use Rattle.tree.specs.Check.{Place, place, holds, fits, inside, swallows, misnames, deepest, faults_in, scan_in, scan, malformed, longest, answer_in, answer_to, ChecksIn, number_of}
+use Rattle.tree.specs.Bounds.{tree_short}
 use Rattle.tree.specs.declared.Answer.{Answer}
 use Rattle.tree.specs.declared.Answer.TheVariants.{Malformed, TooLong, Broken, Mark, Misfit, Outside, Unclosed, NotRowid, Deep}
-use Rattle.rules.specs.Rules.{ruleAt, soundTo, behind, broken, ruled, join, sound-within}
+use Rattle.rules.specs.Rules.{rule_at, sound_to, behind, broken, ruled, join, sound_within}
 use Rattle.rules.specs.Walk.{Reached, resumed, Rules, Led, Finds}
 use Rattle.rules.specs.declared.Found.{Found}
 
 -- the root's place, which has no rule
-abbrev at-root : List Place
-at-root = place 1 root ∷ []
+abbrev at_root : List Place
+at_root = place 1 root ∷ []
 
-root-rules : Rules rootAt 0 1
-unfolding ruleAt class_at classes
-root-rules = record { held = refl; rules = refl }
+root_rules : Rules root_at 0 1
+unfolding rule_at class_at classes
+root_rules = record { held = refl; rules = refl }
 
 -- ---- 1 and 2 come before all records: then no record is sound so far, and else the answer is the scan's
-early-or : (t : List ℕ) (f l b : Bool) (e : Encoding) (a s : Answer) → a ≡ first ((f, Malformed) ∷ (l, TooLong) ∷ (b, Broken e) ∷ []) s
-    → 0 < soundTo t a → a ≡ s
-early-or t true l b e a s q h = absurd (omega (arith, ap (soundTo t) q))
-early-or t false true b e a s q h = absurd (omega (arith, ap (soundTo t) q))
-early-or t false false true e a s q h = absurd (omega (arith, ap (soundTo t) q))
-early-or t false false false e a s q h = q
+early_or : (t : List ℕ) (f l b : Bool) (e : Encoding) (a s : Answer) → a ≡ first ((f, Malformed) ∷ (l, TooLong) ∷ (b, Broken e) ∷ []) s
+    → 0 < sound_to t a → a ≡ s
+early_or t true l b e a s q h = absurd (omega (arith, ap (sound_to t) q))
+early_or t false true b e a s q h = absurd (omega (arith, ap (sound_to t) q))
+early_or t false false true e a s q h = absurd (omega (arith, ap (sound_to t) q))
+early_or t false false false e a s q h = q
 
 -- the answer of 01's check, whatever was said of the text's encoding
 pub record Answered (t x : List ℕ) (a : Answer) : Type 0 where
   pub encoding : Encoding
-  pub answers : a ≡ answerTo encoding t x
+  pub answers : a ≡ answer_to encoding t x
 
 -- and the answer in a mode, for the same encoding
 abbrev pub Ruled : Mode → List ℕ → List ℕ → Answer → Answer → Type 0
-Ruled m t x a r = (e : Encoding) → a ≡ answerTo e t x → r ≡ answer_in m e t x
+Ruled m t x a r = (e : Encoding) → a ≡ answer_to e t x → r ≡ answer_in m e t x
 
 module _ (t x : List ℕ) (a : Answer) (c : Answered t x a) where
-  scanned : 0 < soundTo t a → a ≡ scan t x (count t) 0 at-root
+  scanned : 0 < sound_to t a → a ≡ scan t x (count t) 0 at_root
   unfolding answer_in
-  scanned h = early-or t (malformed t) (ltb longest (length x)) (not (eqb (utf8.number c.encoding) 0)) c.encoding a _ c.answers h
+  scanned h = early_or t (malformed t) (ltb longest (length x)) (not (eqb (utf8.number c.encoding) 0)) c.encoding a _ c.answers h
 
-  root-reached : Reached t x (soundTo t a) 0 (place 1 (class_at rootAt) ∷ [])
-  root-reached h = let z : count t - 0 ≡ count t = omega arith in rw (root_is, z) (sym (ap (soundTo t) (scanned h)))
+  root_reached : Reached t x (sound_to t a) 0 (place 1 (class_at root_at) ∷ [])
+  root_reached h = let z : count t - 0 ≡ count t = omega arith in rw (root_is, z) (sym (ap (sound_to t) (scanned h)))
 
-  pub led : Led t x (soundTo t a) 0 64 0 1
-  led = record { row = rootAt; rules = root-rules; rest = []; reached = root-reached }
+  pub led : Led t x (sound_to t a) 0 64 0 1
+  led = record { row = root_at; rules = root_rules; rest = []; reached = root_reached }
 
   -- no more records are sound than there are
-  pub sound-few : soundTo t a ≤ longest
+  pub sound_few : sound_to t a ≤ longest
   unfolding answer_in
-  sound-few = rw c.answers (by (malformed t) refl (ltb longest (length x)) (not (eqb (utf8.number c.encoding) 0)))
+  sound_few = rw c.answers (by (malformed t) refl (ltb longest (length x)) (not (eqb (utf8.number c.encoding) 0)))
     where
       by : (f : Bool) → malformed t ≡ f → (l b : Bool)
-          → soundTo t (first ((f, Malformed) ∷ (l, TooLong) ∷ (b, Broken c.encoding) ∷ []) (scan t x (count t) 0 at-root)) ≤ longest
+          → sound_to t (first ((f, Malformed) ∷ (l, TooLong) ∷ (b, Broken c.encoding) ∷ []) (scan t x (count t) 0 at_root)) ≤ longest
       by true q l b = omega arith
       by false q true b = omega arith
       by false q false true = omega arith
-      by false q false false = omega (arith, sound-within t x (count t) 0 at-root (omega arith), tree-short t q)
+      by false q false false = omega (arith, sound_within t x (count t) 0 at_root (omega arith), tree_short t q)
 
 -- ---- what the walk finds is what is broken
 module _ (m : Mode) (t x : List ℕ) (a : Answer) (c : Answered t x a) where
@@ -83,82 +83,82 @@ module _ (m : Mode) (t x : List ℕ) (a : Answer) (c : Answered t x a) where
   none_left zero i = refl
   none_left (suc n) i = refl
 
-  module _ (w : Found) (found : Finds m t x (soundTo t a) 0 64 0 1 w) where
-    walked : broken m t x (soundTo t a) 0 at-root ≡ resumed m t x (soundTo t a) w []
-    walked = let z : soundTo t a - 0 ≡ soundTo t a = omega arith in rw (root_is, z) at ((found rootAt root-rules).is [] (root-reached t x a c))
+  module _ (w : Found) (found : Finds m t x (sound_to t a) 0 64 0 1 w) where
+    walked : broken m t x (sound_to t a) 0 at_root ≡ resumed m t x (sound_to t a) w []
+    walked = let z : sound_to t a - 0 ≡ sound_to t a = omega arith in rw (root_is, z) at ((found root_at root_rules).is [] (root_reached t x a c))
 
-    ruled-same : ruled a (broken m t x (soundTo t a) 0 at-root) ≡ ruled a w
+    ruled_same : ruled a (broken m t x (sound_to t a) 0 at_root) ≡ ruled a w
     unfolding ruled resumed
-    ruled-same = by (eqb w.fault 0) refl
+    ruled_same = by (eqb w.fault 0) refl
       where
-        by : (b : Bool) → eqb w.fault 0 ≡ b → ruled a (broken m t x (soundTo t a) 0 at-root) ≡ ruled a w
-        by true q = rw (walked, q, none_left (soundTo t a - w.at) w.at, eqb-true w.fault 0 q)
+        by : (b : Bool) → eqb w.fault 0 ≡ b → ruled a (broken m t x (sound_to t a) 0 at_root) ≡ ruled a w
+        by true q = rw (walked, q, none_left (sound_to t a - w.at) w.at, eqb-true w.fault 0 q)
         by false q = rw (walked, q)
 
-    pub in-mode : Ruled m t x a (ruled a w)
+    pub in_mode : Ruled m t x a (ruled a w)
     unfolding answer_in ruled broken
-    in-mode e is = sym ruled-same ∙ by (malformed t) (ltb longest (length x)) (not (eqb (utf8.number e) 0)) is
+    in_mode e is = sym ruled_same ∙ by (malformed t) (ltb longest (length x)) (not (eqb (utf8.number e) 0)) is
       where
-        by : (f l b : Bool) → a ≡ first ((f, Malformed) ∷ (l, TooLong) ∷ (b, Broken e) ∷ []) (scan t x (count t) 0 at-root)
-            → ruled a (broken m t x (soundTo t a) 0 at-root)
-            ≡ first ((f, Malformed) ∷ (l, TooLong) ∷ (b, Broken e) ∷ []) (scanIn m t x (count t) 0 at-root)
+        by : (f l b : Bool) → a ≡ first ((f, Malformed) ∷ (l, TooLong) ∷ (b, Broken e) ∷ []) (scan t x (count t) 0 at_root)
+            → ruled a (broken m t x (sound_to t a) 0 at_root)
+            ≡ first ((f, Malformed) ∷ (l, TooLong) ∷ (b, Broken e) ∷ []) (scan_in m t x (count t) 0 at_root)
         by true l b q = rw q
         by false true b q = rw q
         by false false true q = rw q
         by false false false q =
-            let s = scan t x (count t) 0 at-root in
-            let z : soundTo t s - 0 ≡ soundTo t s = omega arith in
-            rw q (sym (rw z at (join m t x (count t) 0 at-root (omega arith))))
+            let s = scan t x (count t) 0 at_root in
+            let z : sound_to t s - 0 ≡ sound_to t s = omega arith in
+            rw q (sym (rw z at (join m t x (count t) 0 at_root (omega arith))))
 
 -- ---- with no rule in force the mode is 01's
-crate-is : (v : Edition) → isSqlite v ≡ false → Crate ≡ v
-crate-is Crate h = refl
-crate-is Sqlite h = absurd (false≢true (sym h))
+crate_is : (v : Edition) → is_sqlite v ≡ false → Crate ≡ v
+crate_is Crate h = refl
+crate_is Sqlite h = absurd (false≢true (sym h))
 
-plain-is : (m : Mode) → m.strict ≡ false → isSqlite m.edition ≡ false → plain ≡ m
-plain-is m e f =
-    let v = crate-is m.edition f in
+plain_is : (m : Mode) → m.strict ≡ false → is_sqlite m.edition ≡ false → plain ≡ m
+plain_is m e f =
+    let v = crate_is m.edition f in
     rw (v, ← e)
 
-pub as_plain : (m : Mode) (t x : List ℕ) (a : Answer) → (m.strict || isSqlite m.edition) ≡ false → Ruled m t x a a
-as_plain m t x a h k is = by m.strict (isSqlite m.edition) refl refl h
+pub as_plain : (m : Mode) (t x : List ℕ) (a : Answer) → (m.strict || is_sqlite m.edition) ≡ false → Ruled m t x a a
+as_plain m t x a h k is = by m.strict (is_sqlite m.edition) refl refl h
   where
-    by : (b d : Bool) → m.strict ≡ b → isSqlite m.edition ≡ d → (b || d) ≡ false → a ≡ answer_in m k t x
+    by : (b d : Bool) → m.strict ≡ b → is_sqlite m.edition ≡ d → (b || d) ≡ false → a ≡ answer_in m k t x
     by true d e f z = absurd (false≢true (sym z))
     by false true e f z = absurd (false≢true (sym z))
-    by false false e f z = rw (← plain-is m e f) is
+    by false false e f z = rw (← plain_is m e f) is
 
 -- ---- what a mode admits, a mode that asks for less admits
 pub record Looser (k m : Mode) : Type 0 where
   pub switch : k.strict ≡ true → m.strict ≡ true
-  pub sqlite : isSqlite k.edition ≡ true → isSqlite m.edition ≡ true
+  pub sqlite : is_sqlite k.edition ≡ true → is_sqlite m.edition ≡ true
 
 -- 01 as it is asks for the least, and the same edition with the switch off for less
-pub plain-looser : (m : Mode) → Looser plain m
-plain-looser m = record { switch = λ h. absurd (false≢true h); sqlite = λ h. absurd (false≢true h) }
+pub plain_looser : (m : Mode) → Looser plain m
+plain_looser m = record { switch = λ h. absurd (false≢true h); sqlite = λ h. absurd (false≢true h) }
 
-abbrev pub switchedOff : Mode → Mode
-switchedOff m = record { strict = false; edition = m.edition }
+abbrev pub switched_off : Mode → Mode
+switched_off m = record { strict = false; edition = m.edition }
 
-pub off-looser : (m : Mode) → Looser (switchedOff m) m
-off-looser m = record { switch = λ h. absurd (false≢true h); sqlite = λ h. h }
+pub off_looser : (m : Mode) → Looser (switched_off m) m
+off_looser m = record { switch = λ h. absurd (false≢true h); sqlite = λ h. h }
 
 less_asked : (b c w : Bool) → (b ≡ true → c ≡ true) → (c && w) ≡ false → (b && w) ≡ false
 less_asked true c w h e = rw (h refl) at e
 less_asked false c w h e = refl
 
 module _ (k m : Mode) (less : Looser k m) (t x : List ℕ) where
-  same-scan : (n i : ℕ) (ps : List Place) → number_of (scanIn m t x n i ps) ≡ 0 → scanIn k t x n i ps ≡ scanIn m t x n i ps
-  unfolding scanIn faultsIn
-  same-scan zero i [] z = refl
-  same-scan zero i (p ∷ ps) z = refl
-  same-scan (suc n) i [] z = refl
-  same-scan (suc n) i (p ∷ ps) z =
-      let r = recordAt t i in
-      by (not (markOk r)) (not (fits p.class r)) (not (inside x r)) _ _ _ _ (ltb deepest p.depth) _ _
+  same_scan : (n i : ℕ) (ps : List Place) → number_of (scan_in m t x n i ps) ≡ 0 → scan_in k t x n i ps ≡ scan_in m t x n i ps
+  unfolding scan_in faults_in
+  same_scan zero i [] z = refl
+  same_scan zero i (p ∷ ps) z = refl
+  same_scan (suc n) i [] z = refl
+  same_scan (suc n) i (p ∷ ps) z =
+      let r = record_at t i in
+      by (not (mark_ok r)) (not (fits p.class r)) (not (inside x r)) _ _ _ _ (ltb deepest p.depth) _ _
       (less_asked k.strict m.strict (swallows x p.class r) less.switch)
-      (less_asked (isSqlite k.edition) (isSqlite m.edition) (misnames x p.class r) less.sqlite)
-      (same-scan n (i + 1) (map (place (p.depth + 1)) (holds p.class r) ++ ps)) z
+      (less_asked (is_sqlite k.edition) (is_sqlite m.edition) (misnames x p.class r) less.sqlite)
+      (same_scan n (i + 1) (map (place (p.depth + 1)) (holds p.class r) ++ ps)) z
     where
       by : (g f o s q u v d : Bool) (a b : Answer) → (s ≡ false → u ≡ false) → (q ≡ false → v ≡ false) → (number_of b ≡ 0 → a ≡ b)
           → number_of (first ((g, Mark i) ∷ (f, Misfit i) ∷ (o, Outside i) ∷ (s, Unclosed i) ∷ (q, NotRowid i) ∷ (d, Deep i) ∷ []) b) ≡ 0
@@ -181,9 +181,9 @@ module _ (k m : Mode) (less : Looser k m) (t x : List ℕ) where
         answers = by (malformed t) (ltb longest (length x)) (not (eqb (utf8.number c.encoding) 0)) c.answers;
       }
     where
-      by : (f l b : Bool) → a ≡ first ((f, Malformed) ∷ (l, TooLong) ∷ (b, Broken c.encoding) ∷ []) (scanIn m t x (count t) 0 at-root)
-          → a ≡ first ((f, Malformed) ∷ (l, TooLong) ∷ (b, Broken c.encoding) ∷ []) (scanIn k t x (count t) 0 at-root)
+      by : (f l b : Bool) → a ≡ first ((f, Malformed) ∷ (l, TooLong) ∷ (b, Broken c.encoding) ∷ []) (scan_in m t x (count t) 0 at_root)
+          → a ≡ first ((f, Malformed) ∷ (l, TooLong) ∷ (b, Broken c.encoding) ∷ []) (scan_in k t x (count t) 0 at_root)
       by true l b e = e
       by false true b e = e
       by false false true e = e
-      by false false false e = e ∙ sym (same-scan (count t) 0 at-root (sym (ap number_of e) ∙ z))
+      by false false false e = e ∙ sym (same_scan (count t) 0 at_root (sym (ap number_of e) ∙ z))

@@ -5,7 +5,7 @@
 ghost use Rattle.std.specs.Prelude.{◌≡◌, true, ◌≤◌};
 ghost use Rattle.tree.specs.Check.{inside as inside', longest, answer_in, ChecksIn};
 ghost use Rattle.tree.specs.Told.{taken};
-ghost use Rattle.rules.specs.Rules.{inForce, keeps as keeps', ruleFault, rulesOf, soundTo, ruled as ruled'};
+ghost use Rattle.rules.specs.Rules.{in_force as in_force', keeps as keeps', rule_fault as rule_fault', rules_of as rules_of', sound_to as sound_to', ruled as ruled'};
 ghost use Rattle.rules.specs.Walk.{Led, Finds};
 ghost use Rattle.rules.specs.Whole.{Answered, Ruled};
 
@@ -20,7 +20,7 @@ const SOURCE: u64 = 1;
 
 const UNCLOSED: u64 = 9;
 
-// The rule for a without-rowid text, and its number.
+// The rule for a without_rowid_lem text, and its number.
 const ROWID: u64 = 2;
 
 const NOT_ROWID: u64 = 10;
@@ -33,7 +33,7 @@ const NO_RULES: u64 = 0;
 // A CHECK's second child is its source.
 const CHECK_RULES: u64 = SOURCE * BYTE;
 
-// A table's third child is its without-rowid text.
+// A table's third child is its without_rowid_lem text.
 const TABLE_RULES: u64 = ROWID * BYTE * BYTE;
 
 // The root is 1 deep, and a record may be this deep.
@@ -48,7 +48,7 @@ struct Found {
 
 // Whether a rule is in force in a mode.
 fn in_force(rule: u64, mode: Mode) -> bool
-    ensures { result ≡ inForce rule mode }
+    ensures { result ≡ in_force' rule mode }
 {
     let strict = mode.strict;
     let edition = mode.edition;
@@ -68,7 +68,7 @@ fn keeps(rule: u64, part: &[u8]) -> bool
 // The number that a record comes to in a place with a rule, or with none: 0, or that of the refusal.
 fn rule_fault(text: &[u8], rule: u64, r: Record, mode: Mode) -> u64
     requires { inside' text.now r ≡ true }
-    ensures { result ≡ ruleFault mode text.now rule r }
+    ensures { result ≡ rule_fault' mode text.now rule r }
 {
     if !in_force(rule, mode) {
         return 0;
@@ -86,7 +86,7 @@ fn rule_fault(text: &[u8], rule: u64, r: Record, mode: Mode) -> u64
 
 // The rules for the children of a kind.
 fn rules_of(kind: u16) -> u64
-    ensures { result ≡ rulesOf kind }
+    ensures { result ≡ rules_of' kind }
 {
     if kind == CHECK {
         return CHECK_RULES;
@@ -140,8 +140,8 @@ fn rule_row(
 
 // How many records a rule may be asked of, where 01's check answers this: those before its refusal, and that record too if it is only too deep.
 fn sound_to(tree: &[u8], a: Answer) -> usize
-    requires { soundTo tree.now a ≤ longest }
-    ensures { result ≡ soundTo tree.now a }
+    requires { sound_to' tree.now a ≤ longest }
+    ensures { result ≡ sound_to' tree.now a }
 {
     match a {
         Answer::Admitted => record::count(tree),

@@ -1,118 +1,118 @@
 -- Examples of what is refused and what is not. Each is computed from the definition.
 use Rattle.std.specs.Prelude.{◌≡◌, refl, [], ◌∷◌, true, false}
-use Rattle.source.specs.Source.{ends, endsInside}
+use Rattle.source.specs.Source.{ends, ends_inside}
 
 -- nothing at all
-empty : endsInside [] ≡ false
-unfolding endsInside ends
+empty : ends_inside [] ≡ false
+unfolding ends_inside ends
 empty = refl
 
 -- a--b
-line : endsInside (0x61 ∷ 0x2D ∷ 0x2D ∷ 0x62 ∷ []) ≡ false
-unfolding endsInside ends
+line : ends_inside (0x61 ∷ 0x2D ∷ 0x2D ∷ 0x62 ∷ []) ≡ false
+unfolding ends_inside ends
 line = refl
 
 -- --'
-line-quote : endsInside (0x2D ∷ 0x2D ∷ 0x27 ∷ []) ≡ false
-unfolding endsInside ends
-line-quote = refl
+line_quote : ends_inside (0x2D ∷ 0x2D ∷ 0x27 ∷ []) ≡ false
+unfolding ends_inside ends
+line_quote = refl
 
 -- -- /*
-line-block : endsInside (0x2D ∷ 0x2D ∷ 0x20 ∷ 0x2F ∷ 0x2A ∷ []) ≡ false
-unfolding endsInside ends
-line-block = refl
+line_block : ends_inside (0x2D ∷ 0x2D ∷ 0x20 ∷ 0x2F ∷ 0x2A ∷ []) ≡ false
+unfolding ends_inside ends
+line_block = refl
 
 -- --, a newline, '
-line-over : endsInside (0x2D ∷ 0x2D ∷ 0x0A ∷ 0x27 ∷ []) ≡ true
-unfolding endsInside ends
-line-over = refl
+line_over : ends_inside (0x2D ∷ 0x2D ∷ 0x0A ∷ 0x27 ∷ []) ≡ true
+unfolding ends_inside ends
+line_over = refl
 
 -- /*
-block : endsInside (0x2F ∷ 0x2A ∷ []) ≡ true
-unfolding endsInside ends
+block : ends_inside (0x2F ∷ 0x2A ∷ []) ≡ true
+unfolding ends_inside ends
 block = refl
 
 -- /*/
-block-slash : endsInside (0x2F ∷ 0x2A ∷ 0x2F ∷ []) ≡ true
-unfolding endsInside ends
-block-slash = refl
+block_slash : ends_inside (0x2F ∷ 0x2A ∷ 0x2F ∷ []) ≡ true
+unfolding ends_inside ends
+block_slash = refl
 
 -- /**/
-block_closed : endsInside (0x2F ∷ 0x2A ∷ 0x2A ∷ 0x2F ∷ []) ≡ false
-unfolding endsInside ends
+block_closed : ends_inside (0x2F ∷ 0x2A ∷ 0x2A ∷ 0x2F ∷ []) ≡ false
+unfolding ends_inside ends
 block_closed = refl
 
 -- /* */
-block-blank : endsInside (0x2F ∷ 0x2A ∷ 0x20 ∷ 0x2A ∷ 0x2F ∷ []) ≡ false
-unfolding endsInside ends
-block-blank = refl
+block_blank : ends_inside (0x2F ∷ 0x2A ∷ 0x20 ∷ 0x2A ∷ 0x2F ∷ []) ≡ false
+unfolding ends_inside ends
+block_blank = refl
 
 -- /***/
-block-stars : endsInside (0x2F ∷ 0x2A ∷ 0x2A ∷ 0x2A ∷ 0x2F ∷ []) ≡ false
-unfolding endsInside ends
-block-stars = refl
+block_stars : ends_inside (0x2F ∷ 0x2A ∷ 0x2A ∷ 0x2A ∷ 0x2F ∷ []) ≡ false
+unfolding ends_inside ends
+block_stars = refl
 
 -- /*'*/
-block-quote : endsInside (0x2F ∷ 0x2A ∷ 0x27 ∷ 0x2A ∷ 0x2F ∷ []) ≡ false
-unfolding endsInside ends
-block-quote = refl
+block_quote : ends_inside (0x2F ∷ 0x2A ∷ 0x27 ∷ 0x2A ∷ 0x2F ∷ []) ≡ false
+unfolding ends_inside ends
+block_quote = refl
 
 -- '
-single : endsInside (0x27 ∷ []) ≡ true
-unfolding endsInside ends
+single : ends_inside (0x27 ∷ []) ≡ true
+unfolding ends_inside ends
 single = refl
 
 -- ''
-single-closed : endsInside (0x27 ∷ 0x27 ∷ []) ≡ false
-unfolding endsInside ends
-single-closed = refl
+single_closed : ends_inside (0x27 ∷ 0x27 ∷ []) ≡ false
+unfolding ends_inside ends
+single_closed = refl
 
 -- 'a''
-single-doubled : endsInside (0x27 ∷ 0x61 ∷ 0x27 ∷ 0x27 ∷ []) ≡ true
-unfolding endsInside ends
-single-doubled = refl
+single_doubled : ends_inside (0x27 ∷ 0x61 ∷ 0x27 ∷ 0x27 ∷ []) ≡ true
+unfolding ends_inside ends
+single_doubled = refl
 
 -- "'
-double : endsInside (0x22 ∷ 0x27 ∷ []) ≡ true
-unfolding endsInside ends
+double : ends_inside (0x22 ∷ 0x27 ∷ []) ≡ true
+unfolding ends_inside ends
 double = refl
 
 -- `
-backtick : endsInside (0x60 ∷ []) ≡ true
-unfolding endsInside ends
+backtick : ends_inside (0x60 ∷ []) ≡ true
+unfolding ends_inside ends
 backtick = refl
 
 -- '/*'
-quote-block : endsInside (0x27 ∷ 0x2F ∷ 0x2A ∷ 0x27 ∷ []) ≡ false
-unfolding endsInside ends
-quote-block = refl
+quote_block : ends_inside (0x27 ∷ 0x2F ∷ 0x2A ∷ 0x27 ∷ []) ≡ false
+unfolding ends_inside ends
+quote_block = refl
 
 -- '--, a newline
-quote-line : endsInside (0x27 ∷ 0x2D ∷ 0x2D ∷ 0x0A ∷ []) ≡ true
-unfolding endsInside ends
-quote-line = refl
+quote_line : ends_inside (0x27 ∷ 0x2D ∷ 0x2D ∷ 0x0A ∷ []) ≡ true
+unfolding ends_inside ends
+quote_line = refl
 
 -- -/*
-dash-block : endsInside (0x2D ∷ 0x2F ∷ 0x2A ∷ []) ≡ true
-unfolding endsInside ends
-dash-block = refl
+dash_block : ends_inside (0x2D ∷ 0x2F ∷ 0x2A ∷ []) ≡ true
+unfolding ends_inside ends
+dash_block = refl
 
 -- //*
-slash-block : endsInside (0x2F ∷ 0x2F ∷ 0x2A ∷ []) ≡ true
-unfolding endsInside ends
-slash-block = refl
+slash_block : ends_inside (0x2F ∷ 0x2F ∷ 0x2A ∷ []) ≡ true
+unfolding ends_inside ends
+slash_block = refl
 
 -- /--
-slash-line : endsInside (0x2F ∷ 0x2D ∷ 0x2D ∷ []) ≡ false
-unfolding endsInside ends
-slash-line = refl
+slash_line : ends_inside (0x2F ∷ 0x2D ∷ 0x2D ∷ []) ≡ false
+unfolding ends_inside ends
+slash_line = refl
 
 -- -'
-dash-quote : endsInside (0x2D ∷ 0x27 ∷ []) ≡ true
-unfolding endsInside ends
-dash-quote = refl
+dash_quote : ends_inside (0x2D ∷ 0x27 ∷ []) ≡ true
+unfolding ends_inside ends
+dash_quote = refl
 
 -- ---'
-dashes : endsInside (0x2D ∷ 0x2D ∷ 0x2D ∷ 0x27 ∷ []) ≡ false
-unfolding endsInside ends
+dashes : ends_inside (0x2D ∷ 0x2D ∷ 0x2D ∷ 0x27 ∷ []) ≡ false
+unfolding ends_inside ends
 dashes = refl

@@ -1,6 +1,6 @@
 // Whether a CHECK source ends inside a block comment or inside a quote (02, vii).
 ghost use Rattle.std.specs.Prelude.{◌≡◌, []};
-ghost use Rattle.source.specs.Source.{isQuote, isInside, endsInside};
+ghost use Rattle.source.specs.Source.{is_quote as is_quote', is_inside, ends_inside as ends_inside'};
 ghost use Rattle.source.specs.Reading.{from, Leads};
 
 const NEWLINE: u8 = 0x0A;
@@ -39,7 +39,7 @@ enum At {
 
 // Whether a byte is one of the three quotes.
 fn is_quote(b: u8) -> bool
-    ensures { result ≡ isQuote b }
+    ensures { result ≡ is_quote' b }
 {
     (b == APOSTROPHE) | ((b == DOUBLE_QUOTE) | (b == BACKTICK))
 }
@@ -128,7 +128,7 @@ fn next(at: At, b: u8) -> At
 
 // Whether a source that ends here ends inside a block comment or a quote.
 fn inside(at: At) -> bool
-    ensures { result ≡ isInside (from at []) }
+    ensures { result ≡ is_inside (from at []) }
 {
     match at {
         At::Outside => false,
@@ -143,7 +143,7 @@ fn inside(at: At) -> bool
 
 // Whether a source, read from the left, ends inside a block comment or a quote; to end inside a line comment does not count.
 pub fn ends_inside(source: &[u8]) -> bool
-    ensures { result ≡ endsInside source.now }
+    ensures { result ≡ ends_inside' source.now }
 {
     let mut at = At::Outside;
     let mut i = 0;

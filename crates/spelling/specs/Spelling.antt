@@ -6,10 +6,10 @@ use Rattle.spelling.specs.Rows.{Row, unknown, bare, fixed, rows}
 unfoldable pub row : ℕ → Row
 row k = get_or rows k unknown
 
-abbrev pub isKnown : Row → Bool
-isKnown unknown = false
-isKnown bare = true
-isKnown (fixed s) = true
+abbrev pub is_known : Row → Bool
+is_known unknown = false
+is_known bare = true
+is_known (fixed s) = true
 
 abbrev pub spelled : Row → List ℕ
 spelled unknown = []
@@ -17,7 +17,7 @@ spelled bare = []
 spelled (fixed s) = s
 
 unfoldable pub known : ℕ → Bool
-known k = isKnown (row k)
+known k = is_known (row k)
 
 -- the fixed spelling, empty where there is none
 unfoldable pub spelling : ℕ → List ℕ

@@ -3,8 +3,8 @@ use Rattle.std.specs.Prelude.{ℕ, ◌+◌, ◌*◌, ◌/◌, ◌%◌, List, [],
 use Rattle.spelling.specs.Rows.{Row, rows}
 use Rattle.spelling.specs.Spelling.{spelled}
 
-abbrev pub rowsHeld : ℕ
-rowsHeld = 194
+abbrev pub rows_held : ℕ
+rows_held = 194
 
 -- lengths are below this number
 abbrev pub lengths : ℕ
@@ -22,16 +22,16 @@ pool (r ∷ rs) = spelled r ++ pool rs
 
 -- the pool
 unfoldable pub bytes : List ℕ
-bytes = pool (take rowsHeld rows)
+bytes = pool (take rows_held rows)
 
 -- the row of a number; past the last it is 0, an empty spelling
 unfoldable pub row_of : ℕ → ℕ
-row_of k = get_or (heads 0 (take rowsHeld rows)) k 0
+row_of k = get_or (heads 0 (take rows_held rows)) k 0
 
 -- the n bytes from i on, if they are all there
 unfoldable pub within : List ℕ → ℕ → ℕ → List ℕ
 within t i n = cond (leb (i + n) (length t)) (take n (drop i t)) []
 
 -- what a lent pool spells k as
-unfoldable pub spellingIn : List ℕ → ℕ → List ℕ
-spellingIn t k = within t (row_of k / lengths) (row_of k % lengths)
+unfoldable pub spelling_in : List ℕ → ℕ → List ℕ
+spelling_in t k = within t (row_of k / lengths) (row_of k % lengths)

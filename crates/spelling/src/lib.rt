@@ -6,7 +6,7 @@ pub mod token;
 
 ghost use Rattle.std.specs.Prelude.{◌≡◌, ◌/◌, ◌%◌};
 ghost use Rattle.spelling.specs.Spelling.{known as known'};
-ghost use Rattle.spelling.specs.Table.{bytes as bytes', row_of, spellingIn, within, lengths};
+ghost use Rattle.spelling.specs.Table.{bytes as bytes', row_of, spelling_in, within, lengths};
 
 // A row is an offset into the pool times this number, and a length, which is below it.
 const LENGTHS: usize = 16;
@@ -236,7 +236,7 @@ pub fn row(number: u16) -> u16
 
 // What the lent pool spells a token number as: empty where it has no fixed spelling.
 pub fn of(pool: &[u8], number: u16) -> &[u8]
-    ensures { result.now ≡ spellingIn pool.now number }
+    ensures { result.now ≡ spelling_in pool.now number }
 {
     cut(pool, row(number))
 }

@@ -1,30 +1,30 @@
 -- Parts of the statements' entries that have functions of their own.
 use Rattle.std.specs.Prelude.{ℕ, [], ◌∷◌}
-use Rattle.spelling.specs.Token.{TK-AS, TK-BEGIN, TK-EACH, TK-END, TK-FOR, TK-FROM, TK-INSERT, TK-NOT, TK-NULL, TK-OR, TK-REPLACE, TK-ROW, TK-SEMI, TK-SET, TK-WHEN, TK-WHERE, TK-WITH}
+use Rattle.spelling.specs.Token.{TK_AS, TK_BEGIN, TK_EACH, TK_END, TK_FOR, TK_FROM, TK_INSERT, TK_NOT, TK_NULL, TK_OR, TK_REPLACE, TK_ROW, TK_SEMI, TK_SET, TK_WHEN, TK_WHERE, TK_WITH}
 use Rattle.grammar.specs.Kind.{Pair}
 use Rattle.grammar.specs.Shape.{Shape, word, said, line, when, slot, commas, lines, given, filled, replacing, ◌·◌}
-use Rattle.grammar.specs.Grammar.{run, node, select, fromClause, conflict, parens, clause, returning}
+use Rattle.grammar.specs.Grammar.{run, node, select, from_clause, conflict, parens, clause, returning}
 
-abbrev pub indexOptions : Shape
-indexOptions = filled (word TK-WITH · parens (commas (node (Pair ∷ []))))
+abbrev pub index_options : Shape
+index_options = filled (word TK_WITH · parens (commas (node (Pair ∷ []))))
 
-abbrev pub triggerBody : Shape
-triggerBody = clause TK-WHEN run · line TK-BEGIN · lines run TK-SEMI · word TK-END
+abbrev pub trigger_body : Shape
+trigger_body = clause TK_WHEN run · line TK_BEGIN · lines run TK_SEMI · word TK_END
 
-abbrev pub viewBody : Shape
-viewBody = slot run · filled (parens (commas run)) · word TK-AS · slot select
+abbrev pub view_body : Shape
+view_body = slot run · filled (parens (commas run)) · word TK_AS · slot select
 
-abbrev pub forEachRow' : ℕ → Shape
-forEachRow' bit = when bit (word TK-FOR · word TK-EACH · word TK-ROW)
+abbrev pub for_each_row' : ℕ → Shape
+for_each_row' bit = when bit (word TK_FOR · word TK_EACH · word TK_ROW)
 
-abbrev pub notNull' : ℕ → Shape
-notNull' bit = when bit (word TK-NOT · word TK-NULL)
+abbrev pub not_null' : ℕ → Shape
+not_null' bit = when bit (word TK_NOT · word TK_NULL)
 
 abbrev pub cycle' : ℕ → Shape
 cycle' bit = when bit (said "CYCLE")
 
-abbrev pub insertOr : Shape
-insertOr = replacing (word TK-REPLACE · slot conflict) (word TK-INSERT · given (word TK-OR · slot conflict))
+abbrev pub insert_or : Shape
+insert_or = replacing (word TK_REPLACE · slot conflict) (word TK_INSERT · given (word TK_OR · slot conflict))
 
-abbrev pub updateRest : Shape
-updateRest = word TK-SET · commas run · clause TK-FROM fromClause · clause TK-WHERE run · returning
+abbrev pub update_rest : Shape
+update_rest = word TK_SET · commas run · clause TK_FROM from_clause · clause TK_WHERE run · returning

@@ -5,8 +5,8 @@ ghost use Rattle.grammar.specs.Kind.{CreateIndex, CreateTable, CreateTrigger, Cr
 ghost use Rattle.grammar.specs.Shape.{said as said', given, decimal, ◌·◌};
 ghost use Rattle.grammar.specs.Grammar.{shape};
 ghost use Rattle.tokens.specs.Tokens.{flagged};
-ghost use Rattle.pen.specs.Pen.{source, sourceIn, Writes, Always, Below, Under, WithText};
-ghost use Rattle.stmt.specs.Parts.{indexOptions, triggerBody, viewBody, forEachRow', notNull', cycle'};
+ghost use Rattle.pen.specs.Pen.{source, source_in, Writes, Always, Below, Under, WithText};
+ghost use Rattle.stmt.specs.Parts.{index_options as index_options', trigger_body as trigger_body', view_body as view_body', for_each_row', not_null', cycle'};
 
 use clause::create_table::create_table_body;
 use clause::custom::create_type_body;
@@ -24,7 +24,7 @@ use spelling::token::{
 
 // An index's WITH, unless it is empty.
 fn index_options(p: Pen, out: &mut [u8], pool: &[u8], tree: &[u8], text: &[u8], left: usize) -> Pen
-    ensures { Below (source tree.now text.now) pool.now left (indexOptions) (p, out.old) (result, out.new) }
+    ensures { Below (source tree.now text.now) pool.now left (index_options') (p, out.old) (result, out.new) }
 {
     let r = record::read(tree, p.next);
     if r.kids == 0 {
@@ -72,7 +72,7 @@ pub fn create_table(
     not_there: bool,
     edition: Edition,
 ) -> Pen
-    ensures { (r : Record') → temporary ≡ flagged 0 r → not_there ≡ flagged 1 r → Writes (sourceIn tree.now text.now edition) pool.now left r (shape CreateTable) (p, out.old) (result, out.new) }
+    ensures { (r : Record') → temporary ≡ flagged 0 r → not_there ≡ flagged 1 r → Writes (source_in tree.now text.now edition) pool.now left r (shape CreateTable) (p, out.old) (result, out.new) }
 {
     let q = word(p, out, pool, TK_CREATE);
     let q = word_if(q, out, pool, temporary, TK_TEMP);
@@ -84,7 +84,7 @@ pub fn create_table(
 
 // FOR EACH ROW if so.
 fn for_each_row(p: Pen, out: &mut [u8], pool: &[u8], on: bool) -> Pen
-    ensures { Under on forEachRow' pool.now (p, out.old) (result, out.new) }
+    ensures { Under on for_each_row' pool.now (p, out.old) (result, out.new) }
 {
     if on {
         let q = word(p, out, pool, TK_FOR);
@@ -96,7 +96,7 @@ fn for_each_row(p: Pen, out: &mut [u8], pool: &[u8], on: bool) -> Pen
 
 // What stands behind a trigger's table.
 fn trigger_body(p: Pen, out: &mut [u8], pool: &[u8], tree: &[u8], text: &[u8]) -> Pen
-    ensures { Always (source tree.now text.now) pool.now (triggerBody) (p, out.old) (result, out.new) }
+    ensures { Always (source tree.now text.now) pool.now (trigger_body') (p, out.old) (result, out.new) }
 {
     let q = clause(p, out, pool, tree, text, TK_WHEN);
     let q = line(q, out, pool, TK_BEGIN);
@@ -132,7 +132,7 @@ pub fn create_trigger(
 
 // A view's name, its columns and its select.
 fn view_body(p: Pen, out: &mut [u8], pool: &[u8], tree: &[u8], text: &[u8], left: usize) -> Pen
-    ensures { Below (source tree.now text.now) pool.now left (viewBody) (p, out.old) (result, out.new) }
+    ensures { Below (source tree.now text.now) pool.now left (view_body') (p, out.old) (result, out.new) }
 {
     let q = run(p, out, pool, tree, text);
     let q = columns(q, out, pool, tree, text);
@@ -211,7 +211,7 @@ pub fn create_type(
     not_there: bool,
     edition: Edition,
 ) -> Pen
-    ensures { (r : Record') → not_there ≡ flagged 0 r → Writes (sourceIn tree.now text.now edition) pool.now left r (shape CreateType) (p, out.old) (result, out.new) }
+    ensures { (r : Record') → not_there ≡ flagged 0 r → Writes (source_in tree.now text.now edition) pool.now left r (shape CreateType) (p, out.old) (result, out.new) }
 {
     let q = word(p, out, pool, TK_CREATE);
     let q = word(q, out, pool, TK_TYPE);
@@ -222,7 +222,7 @@ pub fn create_type(
 
 // NOT NULL if so.
 fn not_null(p: Pen, out: &mut [u8], pool: &[u8], on: bool) -> Pen
-    ensures { Under on notNull' pool.now (p, out.old) (result, out.new) }
+    ensures { Under on not_null' pool.now (p, out.old) (result, out.new) }
 {
     if on {
         let q = word(p, out, pool, TK_NOT);

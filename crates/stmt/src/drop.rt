@@ -1,10 +1,10 @@
 // Statements that drop something.
 ghost use Rattle.std.specs.Prelude.{◌≡◌, ℕ};
 ghost use Rattle.record.specs.declared.Record.{Record as Record'};
-ghost use Rattle.spelling.specs.Token.{TK-DROP};
+ghost use Rattle.spelling.specs.Token.{TK_DROP as TK_DROP'};
 ghost use Rattle.grammar.specs.Kind.{DropType, DropSequence, DropDomain};
 ghost use Rattle.grammar.specs.Shape.{word as word', slot, ◌·◌};
-ghost use Rattle.grammar.specs.Grammar.{shape, run as run', if-exists};
+ghost use Rattle.grammar.specs.Grammar.{shape, run as run', if_exists_lem};
 ghost use Rattle.tokens.specs.Tokens.{flagged};
 ghost use Rattle.pen.specs.Pen.{source, Writes};
 
@@ -22,7 +22,7 @@ pub fn drop_named(
     there: bool,
     kind: u16,
 ) -> Pen
-    ensures { (d : ℕ) (r : Record') → there ≡ flagged 0 r → Writes (source tree.now text.now) pool.now d r (word' TK-DROP · word' kind · if-exists · slot run') (p, out.old) (result, out.new) }
+    ensures { (d : ℕ) (r : Record') → there ≡ flagged 0 r → Writes (source tree.now text.now) pool.now d r (word' TK_DROP' · word' kind · if_exists_lem · slot run') (p, out.old) (result, out.new) }
 {
     let q = word(p, out, pool, TK_DROP);
     let q = word(q, out, pool, kind);

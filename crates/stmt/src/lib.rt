@@ -2,7 +2,7 @@
 ghost use Rattle.grammar.specs.Kind.{AlterTable, Delete, Savepoint};
 ghost use Rattle.grammar.specs.Shape.{slot};
 ghost use Rattle.grammar.specs.Grammar.{from, node, statement};
-ghost use Rattle.pen.specs.Pen.{source, sourceIn, Below};
+ghost use Rattle.pen.specs.Pen.{source, source_in, Below};
 
 use clause::select::select;
 use create::{
@@ -42,7 +42,7 @@ fn stmt_to_create_virtual_table(
     left: usize,
     edition: Edition,
 ) -> Pen
-    ensures { Below (sourceIn tree.now text.now edition) pool.now left (slot (node (from AlterTable 11))) (p, out.old) (result, out.new) }
+    ensures { Below (source_in tree.now text.now edition) pool.now left (slot (node (from AlterTable 11))) (p, out.old) (result, out.new) }
 {
     let r = record::read(tree, p.next);
     if left == 0 {
@@ -154,7 +154,7 @@ fn stmt_to_drop_domain(
     left: usize,
     edition: Edition,
 ) -> Pen
-    ensures { Below (sourceIn tree.now text.now edition) pool.now left (slot (node (from Savepoint 10))) (p, out.old) (result, out.new) }
+    ensures { Below (source_in tree.now text.now edition) pool.now left (slot (node (from Savepoint 10))) (p, out.old) (result, out.new) }
 {
     let r = record::read(tree, p.next);
     if left == 0 {
@@ -206,7 +206,7 @@ pub fn stmt(
     left: usize,
     edition: Edition,
 ) -> Pen
-    ensures { Below (sourceIn tree.now text.now edition) pool.now left (slot statement) (p, out.old) (result, out.new) }
+    ensures { Below (source_in tree.now text.now edition) pool.now left (slot statement) (p, out.old) (result, out.new) }
 {
     let r = record::read(tree, p.next);
     if r.kind < DELETE {

@@ -2,7 +2,7 @@
 ghost use Rattle.grammar.specs.Kind.{Delete, Insert, Update};
 ghost use Rattle.grammar.specs.Grammar.{shape};
 ghost use Rattle.pen.specs.Pen.{source, Always, Below};
-ghost use Rattle.stmt.specs.Parts.{insertOr, updateRest};
+ghost use Rattle.stmt.specs.Parts.{insert_or as insert_or', update_rest as update_rest'};
 
 use clause::select::{from_given, with_clause};
 use grammar::kind::REPLACE;
@@ -28,7 +28,7 @@ pub fn delete(p: Pen, out: &mut [u8], pool: &[u8], tree: &[u8], text: &[u8], lef
 
 // REPLACE, or INSERT and any OR.
 fn insert_or(p: Pen, out: &mut [u8], pool: &[u8], tree: &[u8], text: &[u8]) -> Pen
-    ensures { Always (source tree.now text.now) pool.now (insertOr) (p, out.old) (result, out.new) }
+    ensures { Always (source tree.now text.now) pool.now (insert_or') (p, out.old) (result, out.new) }
 {
     let r = record::read(tree, p.next);
     if r.kind == REPLACE {
@@ -54,7 +54,7 @@ pub fn insert(p: Pen, out: &mut [u8], pool: &[u8], tree: &[u8], text: &[u8], lef
 
 // What stands behind an update's table.
 fn update_rest(p: Pen, out: &mut [u8], pool: &[u8], tree: &[u8], text: &[u8], left: usize) -> Pen
-    ensures { Below (source tree.now text.now) pool.now left (updateRest) (p, out.old) (result, out.new) }
+    ensures { Below (source tree.now text.now) pool.now left (update_rest') (p, out.old) (result, out.new) }
 {
     let q = word(p, out, pool, TK_SET);
     let q = comma(q, out, pool, tree, text);

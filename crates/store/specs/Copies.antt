@@ -5,21 +5,21 @@ use Rattle.std.proofs.lemmas.List.Edits.{sets}
 use Rattle.std.proofs.lemmas.List.{set_comm}
 use Rattle.std.proofs.Math.Seq.{take-length}
 use Rattle.laws.specs.Rest.{rest}
-use Rattle.laws.specs.Sets.{sets-append, sets-part}
+use Rattle.laws.specs.Sets.{sets_append, sets_part}
 
 -- a byte before the others may be stored after them
-set-sets : (c l : List ℕ) (p i x : ℕ) → p < i → set (sets l i c) p x ≡ sets (set l p x) i c
-set-sets [] l p i x h = refl
-set-sets (y ∷ c) l p i x h =
-    set-sets c (set l i y) p (suc i) x (omega arith)
+set_sets : (c l : List ℕ) (p i x : ℕ) → p < i → set (sets l i c) p x ≡ sets (set l p x) i c
+set_sets [] l p i x h = refl
+set_sets (y ∷ c) l p i x h =
+    set_sets c (set l i y) p (suc i) x (omega arith)
     ∙ ap (λ (m : List ℕ). sets m (suc i) c) (set_comm l i p y x (λ e. omega arith))
 
 -- bytes stored twice
-sets-again : (c d l : List ℕ) (p : ℕ) → sets (sets l p c) p (c ++ d) ≡ sets l p (c ++ d)
-sets-again [] d l p = refl
-sets-again (x ∷ c) d l p =
-    ap (λ (m : List ℕ). sets m (suc p) (c ++ d)) (set-sets c (set l p x) p (suc p) x (omega arith) ∙ ap (λ (m : List ℕ). sets m (suc p) c) (set-set l p x x))
-    ∙ sets-again c d (set l p x) (suc p)
+sets_again : (c d l : List ℕ) (p : ℕ) → sets (sets l p c) p (c ++ d) ≡ sets l p (c ++ d)
+sets_again [] d l p = refl
+sets_again (x ∷ c) d l p =
+    ap (λ (m : List ℕ). sets m (suc p) (c ++ d)) (set_sets c (set l p x) p (suc p) x (omega arith) ∙ ap (λ (m : List ℕ). sets m (suc p) c) (set-set l p x x))
+    ∙ sets_again c d (set l p x) (suc p)
 
 overlapped : (l v : List ℕ) (at k w : ℕ) → k ≤ w → k ≤ length v → sets (sets l at (take w v)) (at + k) (drop k v) ≡ sets l at v
 overlapped l v at k w h m =
@@ -33,10 +33,10 @@ overlapped l v at k w h m =
     let size : length a ≡ k = length-take-le k v m in
     ap (λ (x : List ℕ). sets (sets l at x) (at + k) (drop k v)) first
     ∙ ap (λ (x : List ℕ). sets (sets l at (a ++ c)) (at + k) x) second
-    ∙ ap (λ (x : List ℕ). sets x (at + k) (c ++ d)) (sets-append a c l at ∙ ap (λ (n : ℕ). sets (sets l at a) (at + n) c) size)
-    ∙ sets-again c d (sets l at a) (at + k)
+    ∙ ap (λ (x : List ℕ). sets x (at + k) (c ++ d)) (sets_append a c l at ∙ ap (λ (n : ℕ). sets (sets l at a) (at + n) c) size)
+    ∙ sets_again c d (sets l at a) (at + k)
     ∙ ap (λ (n : ℕ). sets (sets l at a) (at + n) (c ++ d)) (sym size)
-    ∙ sym (sets-append a (c ++ d) l at)
+    ∙ sym (sets_append a (c ++ d) l at)
     ∙ ap (λ (x : List ℕ). sets l at x) all
 
 -- where the first i bytes are stored, the next w
@@ -45,7 +45,7 @@ pub next : (l v : List ℕ) (at i w : ℕ) → i ≤ length v
 next l v at i w h =
     ap (λ (x : List ℕ). sets (sets l at (take i v)) (at + i) (take w x)) (rest v i)
     ∙ ap (λ (n : ℕ). sets (sets l at (take i v)) (at + n) (take w (drop i v))) (sym (length-take-le i v h))
-    ∙ sym (sets-append (take i v) (take w (drop i v)) l at)
+    ∙ sym (sets_append (take i v) (take w (drop i v)) l at)
     ∙ ap (λ (x : List ℕ). sets l at x) (sym (take-add i w v))
 
 -- where the first i bytes are stored, the last w, which reach back to them
@@ -66,13 +66,13 @@ pub no_byte : (l v : List ℕ) (at : ℕ) → length v ≡ 0 → l ≡ sets l at
 no_byte l [] at e = refl
 no_byte l (x ∷ v) at e = absurd (omega arith)
 
-pub three-bytes : (l v : List ℕ) (at : ℕ) → (length v ≡ 0 → ⊥) → length v < 4
+pub three_bytes : (l v : List ℕ) (at : ℕ) → (length v ≡ 0 → ⊥) → length v < 4
     → set (set (set l at (get_or v 0 0)) (at + length v / 2) (get_or v (length v / 2) 0)) (at + (length v - 1)) (get_or v (length v - 1) 0) ≡ sets l at v
-three-bytes l [] at n h = absurd (n refl)
-three-bytes l (x ∷ []) at n h = rw (add-zero at, set-set, set-set) refl
-three-bytes l (x ∷ y ∷ []) at n h = let one : at + 1 ≡ suc at = omega arith in rw (one, set-set) refl
-three-bytes l (x ∷ y ∷ z ∷ []) at n h = let one : at + 1 ≡ suc at = omega arith in let two : at + 2 ≡ suc (suc at) = omega arith in rw (one, two) refl
-three-bytes l (x ∷ y ∷ z ∷ w ∷ v) at n h = absurd (omega arith)
+three_bytes l [] at n h = absurd (n refl)
+three_bytes l (x ∷ []) at n h = rw (add-zero at, set-set, set-set) refl
+three_bytes l (x ∷ y ∷ []) at n h = let one : at + 1 ≡ suc at = omega arith in rw (one, set-set) refl
+three_bytes l (x ∷ y ∷ z ∷ []) at n h = let one : at + 1 ≡ suc at = omega arith in let two : at + 2 ≡ suc (suc at) = omega arith in rw (one, two) refl
+three_bytes l (x ∷ y ∷ z ∷ w ∷ v) at n h = absurd (omega arith)
 
 -- a byte under others
 pub covered : (l v : List ℕ) (at x : ℕ) → (length v ≡ 0 → ⊥) → sets (set l at x) at v ≡ sets l at v
@@ -87,7 +87,7 @@ as_fits l v at h = by (leb (length l - at) (length v)) refl
     by true e =
         let le = leb-true (length l - at) (length v) e in
         let m : min (length l - at) (length v) ≡ length l - at = omega arith in
-        rw m (sym (sets-part v l at (length l - at) (omega arith)))
+        rw m (sym (sets_part v l at (length l - at) (omega arith)))
     by false e =
         let lt = leb-false (length l - at) (length v) e in
         let m : min (length l - at) (length v) ≡ length v = omega arith in

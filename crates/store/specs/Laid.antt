@@ -17,8 +17,8 @@ lead spaced = cond spaced [] (ascii " ")
 unfoldable pub room_for : ℕ → ℕ → List ℕ → Bool
 room_for at size v = ltb 0 (length v) && leb (at + (1 + length v)) size
 
-unfoldable pub laidTo : ℕ → ℕ → Bool → List ℕ → Laid
-laidTo at size spaced v = cond (room_for at size v) (To (at + length (lead spaced ++ v))) Not
+unfoldable pub laid_to : ℕ → ℕ → Bool → List ℕ → Laid
+laid_to at size spaced v = cond (room_for at size v) (To (at + length (lead spaced ++ v))) Not
 
-unfoldable pub laidOut : ℕ → List ℕ → Bool → List ℕ → List ℕ
-laidOut at out spaced v = cond (room_for at (length out) v) (sets out at (lead spaced ++ v)) out
+unfoldable pub laid_out : ℕ → List ℕ → Bool → List ℕ → List ℕ
+laid_out at out spaced v = cond (room_for at (length out) v) (sets out at (lead spaced ++ v)) out

@@ -6,17 +6,17 @@ use Rattle.std.proofs.Math.Bool.{and-false}
 use Rattle.std.proofs.lemmas.List.Edits.{sets}
 use Rattle.laws.specs.Tests.{and_left, and_right}
 use Rattle.store.specs.Copies.{covered}
-use Rattle.store.specs.Laid.{lead, room_for, laidTo, laidOut}
+use Rattle.store.specs.Laid.{lead, room_for, laid_to, laid_out}
 use Rattle.store.specs.declared.Laid.{Laid}
 use Rattle.store.specs.declared.Laid.TheVariants.{Not, To}
 
 -- whether bytes were laid
-abbrev is-to : Laid → Bool
-is-to Not = false
-is-to (To c) = true
+abbrev is_to : Laid → Bool
+is_to Not = false
+is_to (To c) = true
 
-pub to-not-apart : (c : ℕ) → To c ≡ Not → ⊥
-to-not-apart c e = false≢true (sym (ap is-to e))
+pub to_not_apart : (c : ℕ) → To c ≡ Not → ⊥
+to_not_apart c e = false≢true (sym (ap is_to e))
 
 -- room, and none
 pub room : (at size : ℕ) (v : List ℕ) → room_for at size v ≡ true → at + (1 + length v) ≤ size
@@ -45,9 +45,9 @@ at_most_one true = omega arith
 at_most_one false = omega arith
 
 -- nothing laid, and all
-pub not-laid : (at : ℕ) (spaced : Bool) (v out : List ℕ) → room_for at (length out) v ≡ false → (Not ≡ laidTo at (length out) spaced v) × (out ≡ laidOut at out spaced v)
-unfolding laidTo laidOut
-not-laid at spaced v out e = rw e (refl, refl)
+pub not_laid : (at : ℕ) (spaced : Bool) (v out : List ℕ) → room_for at (length out) v ≡ false → (Not ≡ laid_to at (length out) spaced v) × (out ≡ laid_out at out spaced v)
+unfolding laid_to laid_out
+not_laid at spaced v out e = rw e (refl, refl)
 
 behind : (at a : ℕ) (spaced : Bool) (v out : List ℕ) → (length v ≡ 0 → ⊥) → a ≡ at + length (lead spaced)
     → (a + length v ≡ at + length (lead spaced ++ v)) × (sets (set out at 32) a v ≡ sets out at (lead spaced ++ v))
@@ -56,13 +56,13 @@ behind at a true v out n e = rw (e, add-zero at) (refl, covered out v at 32 n)
 behind at a false v out n e = let one : at + 1 ≡ suc at = omega arith in (omega arith, rw (e, one) refl)
 
 pub all_laid : (at a : ℕ) (spaced : Bool) (v out : List ℕ) → (length v ≡ 0 → ⊥) → at + (1 + length v) ≤ length out → a ≡ at + length (lead spaced)
-    → (To (a + length v) ≡ laidTo at (length out) spaced v) × (sets (set out at 32) a v ≡ laidOut at out spaced v)
-unfolding laidTo laidOut
+    → (To (a + length v) ≡ laid_to at (length out) spaced v) × (sets (set out at 32) a v ≡ laid_out at out spaced v)
+unfolding laid_to laid_out
 all_laid at a spaced v out n h e = let b = behind at a spaced v out n e in rw (has_room at (length out) v n h) (ap To b.0, b.1)
 
 -- what an answer says
 pub no : (t : Bool) (d : ℕ) (x y z : List ℕ) (r : Laid) → r ≡ cond t (To d) Not → x ≡ cond t y z → r ≡ Not → x ≡ z
-no true d x y z r e f g = absurd (to-not-apart d (sym e ∙ g))
+no true d x y z r e f g = absurd (to_not_apart d (sym e ∙ g))
 no false d x y z r e f g = f
 
 pub same_end : (c d : ℕ) → To c ≡ To d → c ≡ d
@@ -70,19 +70,19 @@ same_end c d e = cc
 
 pub yes : (t : Bool) (c d : ℕ) (x y z : List ℕ) (r : Laid) → r ≡ cond t (To d) Not → x ≡ cond t y z → r ≡ To c → (c ≡ d) × (x ≡ y)
 yes true c d x y z r e f g = (same_end c d (sym g ∙ e), f)
-yes false c d x y z r e f g = absurd (to-not-apart c (sym g ∙ e))
+yes false c d x y z r e f g = absurd (to_not_apart c (sym g ∙ e))
 
 some : (t : Bool) (c d : ℕ) (r : Laid) → r ≡ cond t (To d) Not → r ≡ To c → t ≡ true
 some true c d r e g = refl
-some false c d r e g = absurd (to-not-apart c (sym g ∙ e))
+some false c d r e g = absurd (to_not_apart c (sym g ∙ e))
 
-pub laid-some : (at c : ℕ) (spaced : Bool) (v out : List ℕ) (r : Laid) → r ≡ laidTo at (length out) spaced v → r ≡ To c → 0 < length v
-unfolding laidTo
-laid-some at c spaced v out r e g =
+pub laid_some : (at c : ℕ) (spaced : Bool) (v out : List ℕ) (r : Laid) → r ≡ laid_to at (length out) spaced v → r ≡ To c → 0 < length v
+unfolding laid_to
+laid_some at c spaced v out r e g =
     some_bytes at (length out) v (some (room_for at (length out) v) c (at + length (lead spaced ++ v)) r e g)
 
-pub laid-no : (at : ℕ) (spaced : Bool) (v out out' : List ℕ) (r : Laid) → r ≡ laidTo at (length out) spaced v → out' ≡ laidOut at out spaced v → r ≡ Not → out' ≡ out
-unfolding laidTo laidOut
-laid-no at spaced v out out' r e f g =
+pub laid_no : (at : ℕ) (spaced : Bool) (v out out' : List ℕ) (r : Laid) → r ≡ laid_to at (length out) spaced v → out' ≡ laid_out at out spaced v → r ≡ Not → out' ≡ out
+unfolding laid_to laid_out
+laid_no at spaced v out out' r e f g =
     let b = lead spaced ++ v in
     no (room_for at (length out) v) (at + length b) out' (sets out at b) out r e f g

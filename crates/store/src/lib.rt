@@ -1,7 +1,7 @@
 // Bytes stored in an output: as many as there is room for, or all of them behind a space where there is room for all.
 ghost use Rattle.std.specs.Prelude.{◌≡◌, true, ◌+◌, ◌-◌, ◌≤◌, ◌<◌, min, [], ◌∷◌, length, take};
 ghost use Rattle.std.proofs.lemmas.List.Edits.{sets};
-ghost use Rattle.store.specs.Laid.{lead, most, laidTo, laidOut};
+ghost use Rattle.store.specs.Laid.{lead, most, laid_to, laid_out};
 
 const SPACE: u8 = b' ';
 
@@ -171,7 +171,7 @@ fn start(at: usize, spaced: bool) -> usize
 // A space, unless spaced, and v, from at on, where v has bytes and there is room for a space and all of them; else nothing. The space is
 // stored in any case: where there is to be none, v comes over it.
 pub fn lay_all(out: &mut [u8], at: usize, spaced: bool, v: &[u8]) -> Laid
-    ensures { (result ≡ laidTo at (length out.old) spaced v.now) × (out.new ≡ laidOut at out.old spaced v.now) }
+    ensures { (result ≡ laid_to at (length out.old) spaced v.now) × (out.new ≡ laid_out at out.old spaced v.now) }
 {
     let n = v.len();
     if n == 0 {

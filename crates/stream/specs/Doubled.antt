@@ -5,72 +5,72 @@ use Rattle.std.proofs.Common.{arith, add-one, ap, sym, take-suc, eq-eqb, ne_eqb}
 use Rattle.std.proofs.lemmas.Bool.{false≢true}
 use Rattle.laws.specs.Text.{ascii}
 use Rattle.stream.specs.Sink.{State, most, pour, doubled}
-use Rattle.stream.specs.Laws.{pour-none, pour-more}
+use Rattle.stream.specs.Laws.{pour_none, pour_more}
 
 -- a case: one quote inside, and one at the end
-pub doubled-case : doubled (ascii "it's '") ≡ ascii "it''s ''"
+pub doubled_case : doubled (ascii "it's '") ≡ ascii "it''s ''"
 unfolding doubled
-doubled-case = refl
+doubled_case = refl
 
 -- two parts
-pub doubled-append : (a b : List ℕ) → doubled (a ++ b) ≡ doubled a ++ doubled b
+pub doubled_append : (a b : List ℕ) → doubled (a ++ b) ≡ doubled a ++ doubled b
 unfolding doubled
-doubled-append [] b = refl
-doubled-append (x ∷ a) b = by (eqb x 0x27) (doubled-append a b)
+doubled_append [] b = refl
+doubled_append (x ∷ a) b = by (eqb x 0x27) (doubled_append a b)
   where
     by : (t : Bool) → doubled (a ++ b) ≡ doubled a ++ doubled b → cond t (x ∷ x ∷ doubled (a ++ b)) (x ∷ doubled (a ++ b)) ≡ cond t (x ∷ x ∷ doubled a) (x ∷ doubled a) ++ doubled b
     by true e = ap (λ (l : List ℕ). x ∷ x ∷ l) e
     by false e = ap (λ (l : List ℕ). x ∷ l) e
 
 -- one byte
-pub doubled-quote : (b : ℕ) → b ≡ 0x27 → doubled (b ∷ []) ≡ b ∷ b ∷ []
+pub doubled_quote : (b : ℕ) → b ≡ 0x27 → doubled (b ∷ []) ≡ b ∷ b ∷ []
 unfolding doubled
-doubled-quote b e = rw (eq-eqb b 0x27 e)
+doubled_quote b e = rw (eq-eqb b 0x27 e)
 
-pub doubled-other : (b : ℕ) → (b ≡ 0x27 → ⊥) → doubled (b ∷ []) ≡ b ∷ []
+pub doubled_other : (b : ℕ) → (b ≡ 0x27 → ⊥) → doubled (b ∷ []) ≡ b ∷ []
 unfolding doubled
-doubled-other b n = rw (ne_eqb b 0x27 n)
+doubled_other b n = rw (ne_eqb b 0x27 n)
 
 -- a byte more
-pub doubled-more : (s : List ℕ) (i : ℕ) → i < length s → doubled (take (i + 1) s) ≡ doubled (take i s) ++ doubled (get_or s i 0 ∷ [])
-doubled-more s i h = rw (add-one i, take-suc s i 0) (doubled-append (take i s) (get_or s i 0 ∷ []))
+pub doubled_more : (s : List ℕ) (i : ℕ) → i < length s → doubled (take (i + 1) s) ≡ doubled (take i s) ++ doubled (get_or s i 0 ∷ [])
+doubled_more s i h = rw (add-one i, take-suc s i 0) (doubled_append (take i s) (get_or s i 0 ∷ []))
 
 -- the bytes are at most twice as many
-pub doubled-length : (x : List ℕ) → length (doubled x) ≤ 2 * length x
+pub doubled_length : (x : List ℕ) → length (doubled x) ≤ 2 * length x
 unfolding doubled
-doubled-length [] = omega arith
-doubled-length (b ∷ x) = by (eqb b 0x27) (doubled-length x)
+doubled_length [] = omega arith
+doubled_length (b ∷ x) = by (eqb b 0x27) (doubled_length x)
   where
     by : (t : Bool) → length (doubled x) ≤ 2 * length x → length (cond t (b ∷ b ∷ doubled x) (b ∷ doubled x)) ≤ 2 * length (b ∷ x)
     by true h = omega arith
     by false h = omega arith
 
 -- bytes with no quote among them
-unfoldable pub hasQuote : List ℕ → Bool
-hasQuote [] = false
-hasQuote (b ∷ x) = eqb b 0x27 || hasQuote x
+unfoldable pub has_quote : List ℕ → Bool
+has_quote [] = false
+has_quote (b ∷ x) = eqb b 0x27 || has_quote x
 
-pub doubled-none : (x : List ℕ) → hasQuote x ≡ false → doubled x ≡ x
-unfolding doubled hasQuote
-doubled-none [] e = refl
-doubled-none (b ∷ x) e = by (eqb b 0x27) e (doubled-none x)
+pub doubled_none : (x : List ℕ) → has_quote x ≡ false → doubled x ≡ x
+unfolding doubled has_quote
+doubled_none [] e = refl
+doubled_none (b ∷ x) e = by (eqb b 0x27) e (doubled_none x)
   where
-    by : (t : Bool) → t || hasQuote x ≡ false → (hasQuote x ≡ false → doubled x ≡ x) → cond t (b ∷ b ∷ doubled x) (b ∷ doubled x) ≡ b ∷ x
+    by : (t : Bool) → t || has_quote x ≡ false → (has_quote x ≡ false → doubled x ≡ x) → cond t (b ∷ b ∷ doubled x) (b ∷ doubled x) ≡ b ∷ x
     by true q f = absurd (false≢true (sym q))
     by false q f = ap (λ (l : List ℕ). b ∷ l) (f q)
 
 -- a byte is poured, and a quote once more
-pub byte-once : (st t : State) (b : ℕ) → (b ≡ 0x27 → ⊥) → t ≡ pour st (b ∷ []) → t ≡ pour st (doubled (b ∷ []))
-byte-once st t b n p = rw (doubled-other b n) p
+pub byte_once : (st t : State) (b : ℕ) → (b ≡ 0x27 → ⊥) → t ≡ pour st (b ∷ []) → t ≡ pour st (doubled (b ∷ []))
+byte_once st t b n p = rw (doubled_other b n) p
 
-pub quote-twice : (st t u : State) (b : ℕ) → length st.1 ≤ most → b ≡ 0x27 → t ≡ pour st (b ∷ []) → u ≡ pour t (b ∷ []) → u ≡ pour st (doubled (b ∷ []))
-quote-twice st t u b h e p q = rw (q, p, doubled-quote b e) (pour-more st (b ∷ []) (b ∷ []) h)
+pub quote_twice : (st t u : State) (b : ℕ) → length st.1 ≤ most → b ≡ 0x27 → t ≡ pour st (b ∷ []) → u ≡ pour t (b ∷ []) → u ≡ pour st (doubled (b ∷ []))
+quote_twice st t u b h e p q = rw (q, p, doubled_quote b e) (pour_more st (b ∷ []) (b ∷ []) h)
 
 -- one byte behind the other
-pub none-poured : (st : State) → st.0.at ≤ most → st ≡ pour st (doubled [])
+pub none_poured : (st : State) → st.0.at ≤ most → st ≡ pour st (doubled [])
 unfolding doubled
-none-poured st h = sym (pour-none st h)
+none_poured st h = sym (pour_none st h)
 
-pub next-poured : (st t u : State) (v : List ℕ) (i : ℕ) → length st.1 ≤ most → i < length v
+pub next_poured : (st t u : State) (v : List ℕ) (i : ℕ) → length st.1 ≤ most → i < length v
     → t ≡ pour st (doubled (take i v)) → u ≡ pour t (doubled (get_or v i 0 ∷ [])) → u ≡ pour st (doubled (take (i + 1) v))
-next-poured st t u v i h l p q = rw (q, p, doubled-more v i l) (pour-more st (doubled (take i v)) (doubled (get_or v i 0 ∷ [])) h)
+next_poured st t u v i h l p q = rw (q, p, doubled_more v i l) (pour_more st (doubled (take i v)) (doubled (get_or v i 0 ∷ [])) h)

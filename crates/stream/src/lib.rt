@@ -3,8 +3,8 @@
 // The sink takes everything: a byte that finds no room in the output is only counted, so to measure is to
 // append to an empty output, and measuring and writing are one function.
 ghost use Rattle.std.specs.Prelude.{◌≡◌, [], ◌∷◌};
-ghost use Rattle.stream.specs.Stream.{some, tight as tight', opens as opens', gap as gap', gapped, blob as blob', spelledBit, written, valuedBit};
-ghost use Rattle.spelling.specs.Token.{TK-STRING};
+ghost use Rattle.stream.specs.Stream.{some, tight as tight', opens as opens', gap as gap', gapped, blob as blob', spelled_bit, written, valued_bit};
+ghost use Rattle.spelling.specs.Token.{TK_STRING as TK_STRING'};
 ghost use Rattle.stream.specs.Sink.{count, pour, mark, given, between, doubled as doubled', step};
 
 use spelling::token::{
@@ -101,7 +101,7 @@ fn blob(s: Sink, out: &mut [u8], has: bool, value: &[u8]) -> Sink
 
 // The fixed spelling, where there is one.
 fn spell(s: Sink, out: &mut [u8], kind: u16, word: &[u8]) -> Sink
-    ensures { (result, out.new) ≡ mark (pour (s, out.old) word.now) (spelledBit s.spaced kind word.now) }
+    ensures { (result, out.new) ≡ mark (pour (s, out.old) word.now) (spelled_bit s.spaced kind word.now) }
 {
     if word.len() == 0 {
         Sink {
@@ -119,7 +119,7 @@ fn spell(s: Sink, out: &mut [u8], kind: u16, word: &[u8]) -> Sink
 
 // The value, where there is one.
 fn valued(s: Sink, out: &mut [u8], has: bool, value: &[u8]) -> Sink
-    ensures { (result, out.new) ≡ mark (pour (s, out.old) (written (given has value.now))) (valuedBit s.spaced (given has value.now)) }
+    ensures { (result, out.new) ≡ mark (pour (s, out.old) (written (given has value.now))) (valued_bit s.spaced (given has value.now)) }
 {
     if has {
         let t = put(s, out, value);
@@ -162,7 +162,7 @@ fn in_quotes(s: Sink, out: &mut [u8], value: &[u8]) -> Sink
 
 // TK_STRING, whose fixed spelling is word, with a value between quotes.
 pub fn quoted(s: Sink, out: &mut [u8], word: &[u8], value: &[u8]) -> Sink
-    ensures { (result, out.new) ≡ step (s, out.old) TK-STRING word.now (some (between value.now)) }
+    ensures { (result, out.new) ≡ step (s, out.old) TK_STRING' word.now (some (between value.now)) }
 {
     let t = gap(s, out, TK_STRING);
     let u = spell(t, out, TK_STRING, word);
@@ -205,7 +205,7 @@ fn in_quotes_doubled(s: Sink, out: &mut [u8], value: &[u8]) -> Sink
 
 // TK_STRING, whose fixed spelling is word, with a value between quotes and each quote in it doubled.
 pub fn doubled(s: Sink, out: &mut [u8], word: &[u8], value: &[u8]) -> Sink
-    ensures { (result, out.new) ≡ step (s, out.old) TK-STRING word.now (some (between (doubled' value.now))) }
+    ensures { (result, out.new) ≡ step (s, out.old) TK_STRING' word.now (some (between (doubled' value.now))) }
 {
     let g = gap(s, out, TK_STRING);
     let w = spell(g, out, TK_STRING, word);

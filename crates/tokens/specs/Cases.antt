@@ -3,22 +3,22 @@ use Rattle.std.specs.Prelude.{ℕ, ◌+◌, ◌≡◌, refl, List, [], ◌∷◌
 use Prim.Native.String.{String}
 use Rattle.laws.specs.Little.{little}
 use Rattle.laws.specs.Text.{ascii}
-use Rattle.blank.specs.Blank.{blank, allBlank}
+use Rattle.blank.specs.Blank.{blank, all_blank}
 use Rattle.mode.specs.declared.Edition.TheVariants.{Crate, Sqlite}
-use Rattle.white.specs.White.{lengthAmong, whiteLength}
+use Rattle.white.specs.White.{length_among, white_length}
 use Rattle.white.specs.Parts.{marks, runs, parts}
 use Rattle.decimal.specs.Decimal as dec
 use Rattle.spelling.specs.Rows as spellings
 use Rattle.spelling.specs.Spelling.{row, spelling}
-use Rattle.spelling.specs.Token.{TK-ID}
+use Rattle.spelling.specs.Token.{TK_ID}
 use Rattle.stream.specs.Sink.{doubled}
-use Rattle.stream.specs.Stream.{tight, opens, gap, gapped, blob, spelledBit, written, valuedBit, added, left, adds, leaves, text}
-use Rattle.record.specs.Record.{bytes_at, recordAt, signed, number_of}
+use Rattle.stream.specs.Stream.{tight, opens, gap, gapped, blob, spelled_bit, written, valued_bit, added, left, adds, leaves, text}
+use Rattle.record.specs.Record.{bytes_at, record_at, signed, number_of}
 use Rattle.grammar.specs.Kind.{NONE, LIST, TOKEN, RUN, TEXT, NUMBER, Cmd, Insert, DropType, CreateSequence, Values, ColumnsAndConstraints, Check, TypeName, OperatorClause, REPLACE}
 use Rattle.grammar.specs.Grammar.{shape}
 use Rattle.grammar.specs.Slots.{allowed}
 use Rattle.tokens.specs.Corners.{without, dashes, sourced, inner, quote, pairs}
-use Rattle.tokens.specs.Tokens.{anything, between, Source, behind, tokenOf, flagged, rows, listed, placed, checked, means, node, whole, tokensOf, text_of}
+use Rattle.tokens.specs.Tokens.{anything, between, Source, behind, token_of, flagged, rows, listed, placed, checked, means, node, whole, tokens_of, text_of}
 
 -- the sixteen bytes of a record: kind, flags, number of children, text start, text length
 abbrev rec : ℕ → ℕ → ℕ → ℕ → ℕ → List ℕ
@@ -37,7 +37,7 @@ words start len = rec TEXT 0 0 start len
 
 -- a RUN of one TK_ID with this part of the text as its value
 abbrev ident : ℕ → ℕ → List ℕ
-ident start len = of RUN 1 ++ rec TOKEN (0x8000 + TK-ID) 0 start len
+ident start len = of RUN 1 ++ rec TOKEN (0x8000 + TK_ID) 0 start len
 
 -- the lowest number of 64 bits
 abbrev lowest : List ℕ
@@ -65,22 +65,22 @@ cases =
     ∷ []
 
 -- the text of each tree is its bytes
-pub cases-hold : map (λ c. text_of c.0) cases ≡ map (λ c. c.1) cases
-unfolding cases anything between inner doubled text_of tokensOf whole node means checked placed listed rows behind tokenOf flagged without dashes sourced quote pairs allowed shape recordAt bytes_at signed number_of text adds leaves added left gap gapped tight opens blob spelledBit written valuedBit allBlank blank spelling row spellings.rows marks runs parts lengthAmong whiteLength dec.decimal dec.natural dec.digits
-cases-hold = refl
+pub cases_hold : map (λ c. text_of c.0) cases ≡ map (λ c. c.1) cases
+unfolding cases anything between inner doubled text_of tokens_of whole node means checked placed listed rows behind token_of flagged without dashes sourced quote pairs allowed shape record_at bytes_at signed number_of text adds leaves added left gap gapped tight opens blob spelled_bit written valued_bit all_blank blank spelling row spellings.rows marks runs parts length_among white_length dec.decimal dec.natural dec.digits
+cases_hold = refl
 
 -- ---- in SQLite's edition (02, viii): a quote inside an operator's text is doubled, and a comma stands between two options, and only there
 abbrev sqlite : List ℕ → String → Source
 sqlite tree text = record { tree = tree; text = ascii text; edition = Sqlite }
 
-sqlite-operator : text_of (sqlite (of OperatorClause 2 ++ words 0 4 ++ of NONE 0) "it's") ≡ ascii "OPERATOR 'it''s'"
-unfolding anything between inner doubled text_of tokensOf whole node means checked placed listed rows behind tokenOf flagged without dashes sourced quote pairs allowed shape recordAt bytes_at signed number_of text adds leaves added left gap gapped tight opens blob spelledBit written valuedBit allBlank blank spelling row spellings.rows marks runs parts lengthAmong whiteLength dec.decimal dec.natural dec.digits
-sqlite-operator = refl
+sqlite_operator : text_of (sqlite (of OperatorClause 2 ++ words 0 4 ++ of NONE 0) "it's") ≡ ascii "OPERATOR 'it''s'"
+unfolding anything between inner doubled text_of tokens_of whole node means checked placed listed rows behind token_of flagged without dashes sourced quote pairs allowed shape record_at bytes_at signed number_of text adds leaves added left gap gapped tight opens blob spelled_bit written valued_bit all_blank blank spelling row spellings.rows marks runs parts length_among white_length dec.decimal dec.natural dec.digits
+sqlite_operator = refl
 
-sqlite-options : text_of (sqlite (of ColumnsAndConstraints 4 ++ of LIST 1 ++ ident 0 1 ++ of LIST 0 ++ words 1 13 ++ words 14 6) "aWithout rowidSTRICT") ≡ ascii "(a) WITHOUT rowid, STRICT"
-unfolding anything between inner doubled text_of tokensOf whole node means checked placed listed rows behind tokenOf flagged without dashes sourced quote pairs allowed shape recordAt bytes_at signed number_of text adds leaves added left gap gapped tight opens blob spelledBit written valuedBit allBlank blank spelling row spellings.rows marks runs parts lengthAmong whiteLength dec.decimal dec.natural dec.digits
-sqlite-options = refl
+sqlite_options : text_of (sqlite (of ColumnsAndConstraints 4 ++ of LIST 1 ++ ident 0 1 ++ of LIST 0 ++ words 1 13 ++ words 14 6) "aWithout rowidSTRICT") ≡ ascii "(a) WITHOUT rowid, STRICT"
+unfolding anything between inner doubled text_of tokens_of whole node means checked placed listed rows behind token_of flagged without dashes sourced quote pairs allowed shape record_at bytes_at signed number_of text adds leaves added left gap gapped tight opens blob spelled_bit written valued_bit all_blank blank spelling row spellings.rows marks runs parts length_among white_length dec.decimal dec.natural dec.digits
+sqlite_options = refl
 
-sqlite-one-option : text_of (sqlite (of ColumnsAndConstraints 4 ++ of LIST 1 ++ ident 0 1 ++ of LIST 0 ++ words 1 13 ++ of NONE 0) "aWithout rowid") ≡ ascii "(a) WITHOUT rowid"
-unfolding anything between inner doubled text_of tokensOf whole node means checked placed listed rows behind tokenOf flagged without dashes sourced quote pairs allowed shape recordAt bytes_at signed number_of text adds leaves added left gap gapped tight opens blob spelledBit written valuedBit allBlank blank spelling row spellings.rows marks runs parts lengthAmong whiteLength dec.decimal dec.natural dec.digits
-sqlite-one-option = refl
+sqlite_one_option : text_of (sqlite (of ColumnsAndConstraints 4 ++ of LIST 1 ++ ident 0 1 ++ of LIST 0 ++ words 1 13 ++ of NONE 0) "aWithout rowid") ≡ ascii "(a) WITHOUT rowid"
+unfolding anything between inner doubled text_of tokens_of whole node means checked placed listed rows behind token_of flagged without dashes sourced quote pairs allowed shape record_at bytes_at signed number_of text adds leaves added left gap gapped tight opens blob spelled_bit written valued_bit all_blank blank spelling row spellings.rows marks runs parts length_among white_length dec.decimal dec.natural dec.digits
+sqlite_one_option = refl

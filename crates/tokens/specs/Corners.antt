@@ -1,7 +1,7 @@
 -- 01, section 4: the corners kept from the crate, as tokens of a text part.
 use Rattle.std.specs.Prelude.{ℕ, zero, suc, List, [], ◌∷◌, ◌++◌, Bool, false, cond, ◌&&◌, ◌||◌, eqb, length, take, drop}
 use Rattle.laws.specs.Text.{ascii}
-use Rattle.spelling.specs.Token.{TK-ID, TK-STRING, TK-WITHOUT, TK-LBRACKET, TK-RBRACKET}
+use Rattle.spelling.specs.Token.{TK_ID, TK_STRING, TK_WITHOUT, TK_LBRACKET, TK_RBRACKET}
 use Rattle.stream.specs.Stream.{Token, none, some}
 use Rattle.stream.specs.Sink.{doubled}
 use Rattle.mode.specs.declared.Edition.{Edition}
@@ -16,17 +16,17 @@ abbrev pub valued : ℕ → List ℕ → Token
 valued k v = record { kind = k; value = some v }
 
 abbrev pub id : List ℕ → Token
-id v = valued TK-ID v
+id v = valued TK_ID v
 
 abbrev pub newline : List ℕ
 newline = ascii "\n"
 
 -- "Exactly two non-empty parts: TK_WITHOUT, then TK_ID with the second part, no matter what the first says. Otherwise nothing."
-abbrev pub secondPart : List ℕ → List ℕ
-secondPart x = take (second (parts x)).len (drop (second (parts x)).start x)
+abbrev pub second_part : List ℕ → List ℕ
+second_part x = take (second (parts x)).len (drop (second (parts x)).start x)
 
 unfoldable pub without : List ℕ → List Token
-without x = cond (eqb (length (parts x)) 2) (bare TK-WITHOUT ∷ id (secondPart x) ∷ []) []
+without x = cond (eqb (length (parts x)) 2) (bare TK_WITHOUT ∷ id (second_part x) ∷ []) []
 
 -- whether a text contains `--`, wherever it stands
 unfoldable pub dashes : List ℕ → Bool
@@ -45,9 +45,9 @@ inner Sqlite x = doubled x
 
 -- "a quote, the text, a quote"
 unfoldable pub quote : Edition → List ℕ → Token
-quote v x = valued TK-STRING (ascii "'" ++ inner v x ++ ascii "'")
+quote v x = valued TK_STRING (ascii "'" ++ inner v x ++ ascii "'")
 
 -- n pairs of brackets
 unfoldable pub pairs : ℕ → List Token
 pairs zero = []
-pairs (suc n) = bare TK-LBRACKET ∷ bare TK-RBRACKET ∷ pairs n
+pairs (suc n) = bare TK_LBRACKET ∷ bare TK_RBRACKET ∷ pairs n

@@ -2,20 +2,20 @@
 -- 02, vii and viii: in a mode with the switch on 9, "checked at each record after 5 and before 6", and in SQLite's edition 10, "after 9 and before 6".
 use Rattle.std.specs.Prelude.{ℕ, zero, suc, ◌+◌, ◌%◌, ◌≡◌, List, [], ◌∷◌, ◌++◌, map, Bool, true, false, not, cond, ◌&&◌, ◌||◌, leb, ltb, eqb, length, replicate}
 use Rattle.laws.specs.First.{first}
-use Rattle.mode.specs.Options.{isSqlite, plain}
+use Rattle.mode.specs.Options.{is_sqlite, plain}
 use Rattle.mode.specs.declared.Mode.{Mode}
-use Rattle.source.specs.Source.{endsInside}
+use Rattle.source.specs.Source.{ends_inside}
 use Rattle.rowid.specs.Rowid.{names}
 use Rattle.utf8.specs.Rfc3629 as utf8
 use Rattle.utf8.specs.Rfc3629.{Encoded, boundary}
 use Rattle.utf8.specs.declared.Encoding.{Encoding}
 use Rattle.spelling.specs.Spelling.{known}
-use Rattle.record.specs.Record.{part, recordAt, count, markOk}
+use Rattle.record.specs.Record.{part, record_at, count, mark_ok}
 use Rattle.record.specs.declared.Record.{Record}
 use Rattle.grammar.specs.Kind.{LIST, TOKEN, RUN, TEXT, NUMBER}
-use Rattle.grammar.specs.Shape.{Class, one, list, oneOr, small, checkSource, withoutRowid, ruled}
+use Rattle.grammar.specs.Shape.{Class, one, list, one_or, small, check_source, without_rowid, ruled}
 use Rattle.grammar.specs.Grammar.{shape, root}
-use Rattle.grammar.specs.Slots.{slots_of, flagsBelow, allowed, elements}
+use Rattle.grammar.specs.Slots.{slots_of, flags_below, allowed, elements}
 use Rattle.tree.specs.declared.Answer.{Answer}
 use Rattle.tree.specs.declared.Answer.TheVariants.{Admitted, Malformed, TooLong, Broken, Mark, Misfit, Outside, Unclosed, NotRowid, Deep, Ends}
 
@@ -34,75 +34,75 @@ holds c r =
     (cond (eqb r.kind RUN) (replicate r.kids (one (TOKEN ∷ []))) (slots_of (shape r.kind)))
 
 -- a TOKEN's flags are its number and, at bit 15, whether a value is present
-unfoldable pub flagsFit : Record → Bool
-flagsFit r = cond (eqb r.kind TOKEN) (known (r.flags % 0x8000)) (ltb r.flags (flagsBelow (shape r.kind)))
+unfoldable pub flags_fit : Record → Bool
+flags_fit r = cond (eqb r.kind TOKEN) (known (r.flags % 0x8000)) (ltb r.flags (flags_below (shape r.kind)))
 
 -- a TEXT has a text part, and so has a TOKEN with a value
-unfoldable pub hasPart : Record → Bool
-hasPart r = eqb r.kind TEXT || (eqb r.kind TOKEN && leb 0x8000 r.flags)
+unfoldable pub has_part : Record → Bool
+has_part r = eqb r.kind TEXT || (eqb r.kind TOKEN && leb 0x8000 r.flags)
 
 -- bytes 8-15 are a text part, a number, or not used and zero
-unfoldable pub fieldsFit : Record → Bool
-fieldsFit r = hasPart r || (eqb r.kind NUMBER || (eqb r.start 0 && eqb r.len 0))
+unfoldable pub fields_fit : Record → Bool
+fields_fit r = has_part r || (eqb r.kind NUMBER || (eqb r.start 0 && eqb r.len 0))
 
 -- a NUMBER where only 0 to 255 may stand: its low half is below 256 and its high half zero
-unfoldable pub rangeFits : Class → Record → Bool
-rangeFits small r = ltb r.start 256 && eqb r.len 0
-rangeFits (one ks) r = true
-rangeFits (list c) r = true
-rangeFits (oneOr ks c) r = true
-rangeFits (ruled u) r = true
+unfoldable pub range_fits : Class → Record → Bool
+range_fits small r = ltb r.start 256 && eqb r.len 0
+range_fits (one ks) r = true
+range_fits (list c) r = true
+range_fits (one_or ks c) r = true
+range_fits (ruled u) r = true
 
 -- "kind not allowed here, wrong child count, undefined flag, unused field not zero, unknown token, number out of range"
 unfoldable pub fits : Class → Record → Bool
 fits c r =
-    allowed c r.kind && (eqb r.kids (length (holds c r)) && (flagsFit r && (fieldsFit r && rangeFits c r)))
+    allowed c r.kind && (eqb r.kids (length (holds c r)) && (flags_fit r && (fields_fit r && range_fits c r)))
 
 -- "text part not inside the text, or an end inside a character"
 unfoldable pub inside : List ℕ → Record → Bool
 inside x r =
-    not (hasPart r) || (leb (r.start + r.len) (length x) && (boundary x r.start && boundary x (r.start + r.len)))
+    not (has_part r) || (leb (r.start + r.len) (length x) && (boundary x r.start && boundary x (r.start + r.len)))
 
 -- "a CHECK source that ends inside a block comment or inside one of the three quotes" (02, vii)
 unfoldable pub swallows : List ℕ → Class → Record → Bool
-swallows x (ruled checkSource) r = eqb r.kind TEXT && endsInside (part x r.start r.len)
-swallows x (ruled withoutRowid) r = false
+swallows x (ruled check_source) r = eqb r.kind TEXT && ends_inside (part x r.start r.len)
+swallows x (ruled without_rowid) r = false
 swallows x (one ks) r = false
 swallows x (list c) r = false
-swallows x (oneOr ks c) r = false
+swallows x (one_or ks c) r = false
 swallows x small r = false
 
--- "a without-rowid text accepted only if its two parts are WITHOUT and ROWID" (02, viii)
+-- "a without_rowid_lem text accepted only if its two parts are WITHOUT and ROWID" (02, viii)
 unfoldable pub misnames : List ℕ → Class → Record → Bool
-misnames x (ruled withoutRowid) r = eqb r.kind TEXT && not (names (part x r.start r.len))
-misnames x (ruled checkSource) r = false
+misnames x (ruled without_rowid) r = eqb r.kind TEXT && not (names (part x r.start r.len))
+misnames x (ruled check_source) r = false
 misnames x (one ks) r = false
 misnames x (list c) r = false
-misnames x (oneOr ks c) r = false
+misnames x (one_or ks c) r = false
 misnames x small r = false
 
 abbrev pub deepest : ℕ
 deepest = 64
 
 -- at each record 3, 4, 5, with the switch on 9, in SQLite's edition 10, and 6
-unfoldable pub faultsIn : Mode → List ℕ → Record → ℕ → Place → List (Bool × Answer)
-faultsIn m x r i p =
-    (not (markOk r), Mark i)
+unfoldable pub faults_in : Mode → List ℕ → Record → ℕ → Place → List (Bool × Answer)
+faults_in m x r i p =
+    (not (mark_ok r), Mark i)
     ∷ (not (fits p.class r), Misfit i)
     ∷ (not (inside x r), Outside i)
     ∷ (m.strict && swallows x p.class r, Unclosed i)
-    ∷ (isSqlite m.edition && misnames x p.class r, NotRowid i)
+    ∷ (is_sqlite m.edition && misnames x p.class r, NotRowid i)
     ∷ (ltb deepest p.depth, Deep i)
     ∷ []
 
 -- the n records from index i on, which must fill these places, in order: "children follow their parent at once".
 -- 7: "a needed record is past the end, or records remain after the root"
-unfoldable pub scanIn : Mode → List ℕ → List ℕ → ℕ → ℕ → List Place → Answer
-scanIn m t x zero i [] = Admitted
-scanIn m t x zero i (p ∷ ps) = Ends i
-scanIn m t x (suc n) i [] = Ends i
-scanIn m t x (suc n) i (p ∷ ps) =
-    first (faultsIn m x (recordAt t i) i p) (scanIn m t x n (i + 1) (map (place (p.depth + 1)) (holds p.class (recordAt t i)) ++ ps))
+unfoldable pub scan_in : Mode → List ℕ → List ℕ → ℕ → ℕ → List Place → Answer
+scan_in m t x zero i [] = Admitted
+scan_in m t x zero i (p ∷ ps) = Ends i
+scan_in m t x (suc n) i [] = Ends i
+scan_in m t x (suc n) i (p ∷ ps) =
+    first (faults_in m x (record_at t i) i p) (scan_in m t x n (i + 1) (map (place (p.depth + 1)) (holds p.class (record_at t i)) ++ ps))
 
 abbrev pub longest : ℕ
 longest = 65536
@@ -116,7 +116,7 @@ unfoldable pub answer_in : Mode → Encoding → List ℕ → List ℕ → Answe
 answer_in m e t x =
     first
     ((malformed t, Malformed) ∷ (ltb longest (length x), TooLong) ∷ (not (eqb (utf8.number e) 0), Broken e) ∷ [])
-    (scanIn m t x (count t) 0 (place 1 root ∷ []))
+    (scan_in m t x (count t) 0 (place 1 root ∷ []))
 
 pub record ChecksIn (m : Mode) (t x : List ℕ) (answer : Answer) : Type 0 where
   pub encoding : Encoding
@@ -125,13 +125,13 @@ pub record ChecksIn (m : Mode) (t x : List ℕ) (answer : Answer) : Type 0 where
 
 -- 01 as it is: the switch is off, and the edition is the crate's
 abbrev pub faults : List ℕ → Record → ℕ → Place → List (Bool × Answer)
-faults = faultsIn plain
+faults = faults_in plain
 
 abbrev pub scan : List ℕ → List ℕ → ℕ → ℕ → List Place → Answer
-scan = scanIn plain
+scan = scan_in plain
 
-abbrev pub answerTo : Encoding → List ℕ → List ℕ → Answer
-answerTo = answer_in plain
+abbrev pub answer_to : Encoding → List ℕ → List ℕ → Answer
+answer_to = answer_in plain
 
 abbrev pub Checks : List ℕ → List ℕ → Answer → Type 0
 Checks = ChecksIn plain

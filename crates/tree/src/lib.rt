@@ -5,13 +5,13 @@
 ghost use Rattle.std.specs.Prelude.{◌≡◌, true, [], ◌∷◌, map, ◌+◌, ◌-◌, ◌%◌, ◌≤◌, ◌<◌, replicate};
 ghost use Rattle.utf8.specs.Rfc3629.{boundary as boundary'};
 ghost use Rattle.spelling.specs.Spelling.{known};
-ghost use Rattle.record.specs.Record.{count as count', recordAt, markOk};
+ghost use Rattle.record.specs.Record.{count as count', record_at, mark_ok};
 ghost use Rattle.grammar.specs.Kind.{TOKEN as TOKEN'};
 ghost use Rattle.grammar.specs.Grammar.{root};
-ghost use Rattle.grammar.specs.Classes.{classesHeld, class_at, tokenAt};
-ghost use Rattle.grammar.specs.Packed.{kindsHeld, ruleOf, along, allHeld};
-ghost use Rattle.tree.specs.Check.{place as at, flagsFit, hasPart, fieldsFit, rangeFits, fits, inside as inside', scan, malformed as malformed', answerTo, Checks, number_of, place_of};
-ghost use Rattle.tree.specs.Walk.{refused, refuse, answer_of, Walks, zeros as zeros', kindFits, partInside, usedFault, faultOf, past_at, Meets};
+ghost use Rattle.grammar.specs.Classes.{classes_held, class_at, token_at};
+ghost use Rattle.grammar.specs.Packed.{kinds_held, rule_of, along, all_held};
+ghost use Rattle.tree.specs.Check.{place as at, flags_fit as flags_fit', has_part as has_part', fields_fit as fields_fit', range_fits as range_fits', fits, inside as inside', scan, malformed as malformed', answer_to, Checks, number_of, place_of};
+ghost use Rattle.tree.specs.Walk.{refused, refuse, answer_of, Walks, zeros as zeros', kind_fits as kind_fits', part_inside as part_inside', used_fault as used_fault', fault_of, past_at, Meets};
 ghost use Rattle.tree.specs.Laws.{Counts};
 ghost use Rattle.tree.specs.Told.{taken};
 
@@ -57,9 +57,9 @@ const REFUSED: u64 = 0x1_0000_0000;
 #[derive(Drop)]
 pub enum Answer {
     Admitted,
-    // The tree is empty, over-long, or no row of whole records.
+    // The tree is empty, over_long, or no row of whole records.
     Malformed,
-    // The text is over-long.
+    // The text is over_long.
     TooLong,
     // The text is not UTF-8.
     Broken(Encoding),
@@ -69,7 +69,7 @@ pub enum Answer {
     Outside(usize),
     // The same in a mode: a CHECK's source that ends inside a comment or a quote (02, vii).
     Unclosed(usize),
-    // The same: a without-rowid text that does not say WITHOUT ROWID (02, viii).
+    // The same: a without_rowid_lem text that does not say WITHOUT ROWID (02, viii).
     NotRowid(usize),
     // Again at a record: too deep.
     Deep(usize),
@@ -79,14 +79,14 @@ pub enum Answer {
 
 // Whether a record begins with its mark.
 fn marked(r: Record) -> bool
-    ensures { result ≡ markOk r }
+    ensures { result ≡ mark_ok r }
 {
     r.mark == record::MARK
 }
 
 // Whether a record has a text part: no kind behind TEXT has one.
 fn has_part(r: Record) -> bool
-    ensures { result ≡ hasPart r }
+    ensures { result ≡ has_part' r }
 {
     if TEXT < r.kind {
         return false;
@@ -106,7 +106,7 @@ fn zeros(r: Record) -> bool
 
 // Whether bytes 8-15 are zero, a number, or a text part.
 fn fields_fit(r: Record) -> bool
-    ensures { result ≡ fieldsFit r }
+    ensures { result ≡ fields_fit' r }
 {
     if zeros(r) {
         return true;
@@ -119,8 +119,8 @@ fn fields_fit(r: Record) -> bool
 
 // Whether a NUMBER is one that its place takes.
 fn range_fits(place: u8, r: Record) -> bool
-    requires { place < classesHeld }
-    ensures { result ≡ rangeFits (class_at place) r }
+    requires { place < classes_held }
+    ensures { result ≡ range_fits' (class_at place) r }
 {
     if place == SMALL {
         return (r.start < SMALL_END) & (r.len == 0);
@@ -137,8 +137,8 @@ fn number_known(r: Record) -> bool
 
 // Whether a kind, whose rule this is, defines a record's flags. Most records have none.
 fn flags_fit(rule: u16, r: Record) -> bool
-    requires { (rule ≡ ruleOf r.kind) × (r.kind < kindsHeld) }
-    ensures { result ≡ flagsFit r }
+    requires { (rule ≡ rule_of r.kind) × (r.kind < kinds_held) }
+    ensures { result ≡ flags_fit' r }
 {
     if r.flags == 0 {
         return true;
@@ -151,7 +151,7 @@ fn flags_fit(rule: u16, r: Record) -> bool
 
 // Whether a record has as many children as its kind's rule says: a LIST and a RUN may have any number.
 fn count_fits(rule: u16, r: Record) -> bool
-    requires { (rule ≡ ruleOf r.kind) × (r.kind < kindsHeld) }
+    requires { (rule ≡ rule_of r.kind) × (r.kind < kinds_held) }
     ensures { Counts r result }
 {
     if r.kids == rule / SLOTS {
@@ -162,8 +162,8 @@ fn count_fits(rule: u16, r: Record) -> bool
 
 // Whether a record may stand in a place, by its kind, its children and its flags.
 fn kind_fits(place: u8, r: Record) -> bool
-    requires { place < classesHeld }
-    ensures { result ≡ kindFits (class_at place) r }
+    requires { place < classes_held }
+    ensures { result ≡ kind_fits' (class_at place) r }
 {
     if !((grammar::stands(r.kind) >> place as u64) % 2 == 1) {
         return false;
@@ -177,7 +177,7 @@ fn kind_fits(place: u8, r: Record) -> bool
 
 // The same for the place of a TOKEN in a RUN.
 fn token_fits(r: Record) -> bool
-    ensures { result ≡ kindFits (class_at tokenAt) r }
+    ensures { result ≡ kind_fits' (class_at token_at) r }
 {
     if r.kind != TOKEN {
         return false;
@@ -190,7 +190,7 @@ fn token_fits(r: Record) -> bool
 
 // Whether a text part lies inside the text and between characters.
 fn part_inside(text: &[u8], r: Record) -> bool
-    ensures { result ≡ partInside text.now r }
+    ensures { result ≡ part_inside' text.now r }
 {
     let start = r.start as usize;
     let end = start + r.len as usize;
@@ -215,8 +215,8 @@ fn inside(text: &[u8], r: Record) -> bool
 
 // The number of the fault in bytes 8-15 of a record in a place, or 0. Most are zero, which is right everywhere.
 fn used_fault(text: &[u8], place: u8, r: Record) -> u64
-    requires { (place < classesHeld) × (boundary' text.now 0 ≡ true) }
-    ensures { result ≡ usedFault text.now (class_at place) r }
+    requires { (place < classes_held) × (boundary' text.now 0 ≡ true) }
+    ensures { result ≡ used_fault' text.now (class_at place) r }
 {
     if zeros(r) {
         return 0;
@@ -236,7 +236,7 @@ fn used_fault(text: &[u8], place: u8, r: Record) -> u64
 // The same for a TOKEN.
 fn token_used(text: &[u8], r: Record) -> u64
     requires { r.kind ≡ TOKEN' }
-    ensures { result ≡ usedFault text.now (class_at tokenAt) r }
+    ensures { result ≡ used_fault' text.now (class_at token_at) r }
 {
     if r.flags < PRESENT {
         if zeros(r) {
@@ -252,8 +252,8 @@ fn token_used(text: &[u8], r: Record) -> u64
 
 // The number of the first fault of a record in a place with this depth left, or 0.
 fn first_fault(text: &[u8], place: u8, left: usize, r: Record) -> u64
-    requires { (place < classesHeld) × (boundary' text.now 0 ≡ true) }
-    ensures { result ≡ faultOf text.now r left (fits (class_at place) r) }
+    requires { (place < classes_held) × (boundary' text.now 0 ≡ true) }
+    ensures { result ≡ fault_of text.now r left (fits (class_at place) r) }
 {
     if !marked(r) {
         return MARK;
@@ -273,7 +273,7 @@ fn first_fault(text: &[u8], place: u8, left: usize, r: Record) -> u64
 
 // The same for a TOKEN of a RUN.
 fn token_fault(text: &[u8], left: usize, r: Record) -> u64
-    ensures { result ≡ faultOf text.now r left (fits (class_at tokenAt) r) }
+    ensures { result ≡ fault_of text.now r left (fits (class_at token_at) r) }
 {
     if !marked(r) {
         return MARK;
@@ -340,7 +340,7 @@ pub fn place(a: Answer) -> usize
 // The TOKENs of a RUN, one behind the other: they have no children.
 fn check_tokens(tree: &[u8], text: &[u8], index: u64, left: usize, n: u16) -> u64
     requires { (count' tree.now < refused) × ((index ≤ count' tree.now) × (left ≤ 64)) }
-    ensures { Walks tree.now text.now index (map (at (65 - left)) (replicate n (class_at tokenAt))) result }
+    ensures { Walks tree.now text.now index (map (at (65 - left)) (replicate n (class_at token_at))) result }
 {
     let mut next = index;
     let mut rest = n;
@@ -371,7 +371,7 @@ fn past(index: u64) -> u64
 
 // What a walk comes to that is refused at the record r at an index, in a place with this depth left; or 0.
 fn refused_at(tree: &[u8], text: &[u8], index: u64, place: u8, left: usize, r: Record) -> u64
-    requires { (place < classesHeld) × ((left ≤ 64) × ((r ≡ recordAt tree.now index) × ((count' tree.now < refused) × (boundary' text.now 0 ≡ true)))) }
+    requires { (place < classes_held) × ((left ≤ 64) × ((r ≡ record_at tree.now index) × ((count' tree.now < refused) × (boundary' text.now 0 ≡ true)))) }
     ensures { Meets tree.now text.now index left (class_at place) r result }
 {
     if record::count(tree) as u64 <= index {
@@ -386,7 +386,7 @@ fn refused_at(tree: &[u8], text: &[u8], index: u64, place: u8, left: usize, r: R
 
 // The first n children of a row of places, one behind the other, and all below each.
 fn check_row(tree: &[u8], text: &[u8], index: u64, row: u64, left: usize, n: u16) -> u64
-    requires { (count' tree.now < refused) × ((boundary' text.now 0 ≡ true) × ((index ≤ count' tree.now) × ((left ≤ 64) × (allHeld row n ≡ true)))) }
+    requires { (count' tree.now < refused) × ((boundary' text.now 0 ≡ true) × ((index ≤ count' tree.now) × ((left ≤ 64) × (all_held row n ≡ true)))) }
     ensures { Walks tree.now text.now index (map (at (65 - left)) (along row n)) result }
 {
     let mut next = index;
@@ -414,7 +414,7 @@ fn check_row(tree: &[u8], text: &[u8], index: u64, row: u64, left: usize, n: u16
     next
 }
 
-// Whether a tree is empty, over-long, or no row of whole records.
+// Whether a tree is empty, over_long, or no row of whole records.
 fn malformed(tree: &[u8]) -> bool
     ensures { result ≡ malformed' tree.now }
 {
@@ -458,7 +458,7 @@ fn check_records(tree: &[u8], text: &[u8]) -> Answer
 // The check of a tree over a text whose encoding is told: the first fitting refusal, or that they are admitted. That a text is valid is not taken where
 // it begins inside a character.
 pub fn check_told(tree: &[u8], text: &[u8], told: Encoding) -> Answer
-    ensures { result ≡ answerTo (taken text.now told) tree.now text.now }
+    ensures { result ≡ answer_to (taken text.now told) tree.now text.now }
 {
     if malformed(tree) {
         return Answer::Malformed;

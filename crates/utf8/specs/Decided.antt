@@ -5,10 +5,10 @@ use Rattle.std.proofs.lemmas.Bool.{eqb-false}
 use Rattle.utf8.specs.declared.Encoding.{Encoding}
 use Rattle.utf8.specs.declared.Encoding.TheVariants.{Valid}
 use Rattle.utf8.specs.Rfc3629.{Text, none, Encoded}
-use Rattle.utf8.specs.Scan.{width, brokenAt}
-use Rattle.utf8.specs.Beginnings.{broken-encoded}
-use Rattle.utf8.specs.Characters.{width-none, width-starts}
-use Rattle.utf8.specs.Laws.{text-append, text-char, longest-here}
+use Rattle.utf8.specs.Scan.{width, broken_at}
+use Rattle.utf8.specs.Beginnings.{broken_encoded}
+use Rattle.utf8.specs.Characters.{width_none, width_starts}
+use Rattle.utf8.specs.Laws.{text_append, text_char, longest_here}
 
 abbrev Decided : List ℕ → Type 0
 Decided s = (e : Encoding) × Encoded s e
@@ -24,14 +24,14 @@ from s (suc n) i h l t =
     by true p z q go = (Valid, rw (take_all i s (leb-true (length s) i p)) at t)
     by false p true q go =
         let less = leb-false (length s) i p in
-        (brokenAt (drop i s) i, broken-encoded s i (less, longest-here s i less t (width-none (drop i s) (eqb-true (width (drop i s)) 0 q))))
+        (broken_at (drop i s) i, broken_encoded s i (less, longest_here s i less t (width_none (drop i s) (eqb-true (width (drop i s)) 0 q))))
     by false p false q go =
         let w = width (drop i s) in
         let some = eqb-false w 0 q in
-        let st = width-starts (drop i s) some in
+        let st = width_starts (drop i s) some in
         let d = length-drop i s in
         let r = st.within in
-        go w (omega arith) (omega arith) (rw (take-add i w s) (text-append t (text-char st.char)))
+        go w (omega arith) (omega arith) (rw (take-add i w s) (text_append t (text_char st.char)))
 
 pub decided : (s : List ℕ) → (e : Encoding) × Encoded s e
 decided s = from s (length s) 0 (omega arith) (omega arith) none

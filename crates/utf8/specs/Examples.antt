@@ -2,11 +2,11 @@
 use Rattle.std.specs.Prelude.{ℕ, ◌≡◌, refl, List, [], ◌∷◌, false, T, leb}
 use Rattle.std.proofs.Common.{◌∙◌, sym, arith, leb→le}
 use Rattle.std.proofs.lemmas.Bool.{false≢true}
-use Rattle.utf8.specs.Rfc3629.{In, Char, two, three-E1, four-F0, four-F4, Text, Begins}
+use Rattle.utf8.specs.Rfc3629.{In, Char, two, three_E1, four_F0, four_F4, Text, Begins}
 use Rattle.utf8.specs.Scan.{ones, low, high, two as two', three, four, counted, width, long, begins}
-use Rattle.utf8.specs.Characters.{width-none}
-use Rattle.utf8.specs.Beginnings.{begins-true}
-use Rattle.utf8.specs.Laws.{text-first}
+use Rattle.utf8.specs.Characters.{width_none}
+use Rattle.utf8.specs.Beginnings.{begins_true}
+use Rattle.utf8.specs.Laws.{text_first}
 
 byte : (a b x : ℕ) → T (leb a x) → T (leb x b) → In a b x
 byte a b x h k = record { low = leb→le a x h; high = leb→le x b k }
@@ -16,61 +16,61 @@ two_bytes : Char (0xC3 ∷ 0xA9 ∷ [])
 two_bytes = two (byte 0xC2 0xDF 0xC3 tt tt) (byte 0x80 0xBF 0xA9 tt tt)
 
 -- €, U+20AC
-three-bytes : Char (0xE2 ∷ 0x82 ∷ 0xAC ∷ [])
-three-bytes = three-E1 (byte 0xE1 0xEC 0xE2 tt tt) (byte 0x80 0xBF 0x82 tt tt) (byte 0x80 0xBF 0xAC tt tt)
+three_bytes : Char (0xE2 ∷ 0x82 ∷ 0xAC ∷ [])
+three_bytes = three_E1 (byte 0xE1 0xEC 0xE2 tt tt) (byte 0x80 0xBF 0x82 tt tt) (byte 0x80 0xBF 0xAC tt tt)
 
 -- 😀, U+1F600
 four_bytes : Char (0xF0 ∷ 0x9F ∷ 0x98 ∷ 0x80 ∷ [])
-four_bytes = four-F0 (byte 0xF0 0xF0 0xF0 tt tt) (byte 0x90 0xBF 0x9F tt tt) (byte 0x80 0xBF 0x98 tt tt) (byte 0x80 0xBF 0x80 tt tt)
+four_bytes = four_F0 (byte 0xF0 0xF0 0xF0 tt tt) (byte 0x90 0xBF 0x9F tt tt) (byte 0x80 0xBF 0x98 tt tt) (byte 0x80 0xBF 0x80 tt tt)
 
 -- the last character, U+10FFFF
 last : Char (0xF4 ∷ 0x8F ∷ 0xBF ∷ 0xBF ∷ [])
-last = four-F4 (byte 0xF4 0xF4 0xF4 tt tt) (byte 0x80 0x8F 0x8F tt tt) (byte 0x80 0xBF 0xBF tt tt) (byte 0x80 0xBF 0xBF tt tt)
+last = four_F4 (byte 0xF4 0xF4 0xF4 tt tt) (byte 0x80 0x8F 0x8F tt tt) (byte 0x80 0xBF 0xBF tt tt) (byte 0x80 0xBF 0xBF tt tt)
 
 -- U+0000 in two bytes and in three
-overlong-two : Text (0xC0 ∷ 0x80 ∷ []) → ⊥
+overlong_two : Text (0xC0 ∷ 0x80 ∷ []) → ⊥
 unfolding width counted ones two'
-overlong-two t = text-first t (width-none (0xC0 ∷ 0x80 ∷ []) refl) (omega arith)
+overlong_two t = text_first t (width_none (0xC0 ∷ 0x80 ∷ []) refl) (omega arith)
 
-overlong-three : Text (0xE0 ∷ 0x80 ∷ 0x80 ∷ []) → ⊥
+overlong_three : Text (0xE0 ∷ 0x80 ∷ 0x80 ∷ []) → ⊥
 unfolding width counted ones three low high
-overlong-three t = text-first t (width-none (0xE0 ∷ 0x80 ∷ 0x80 ∷ []) refl) (omega arith)
+overlong_three t = text_first t (width_none (0xE0 ∷ 0x80 ∷ 0x80 ∷ []) refl) (omega arith)
 
 -- the surrogate U+D800
 surrogate : Text (0xED ∷ 0xA0 ∷ 0x80 ∷ []) → ⊥
 unfolding width counted ones three low high
-surrogate t = text-first t (width-none (0xED ∷ 0xA0 ∷ 0x80 ∷ []) refl) (omega arith)
+surrogate t = text_first t (width_none (0xED ∷ 0xA0 ∷ 0x80 ∷ []) refl) (omega arith)
 
 -- one past the last character
-past-last : Text (0xF4 ∷ 0x90 ∷ 0x80 ∷ 0x80 ∷ []) → ⊥
+past_last : Text (0xF4 ∷ 0x90 ∷ 0x80 ∷ 0x80 ∷ []) → ⊥
 unfolding width counted ones four low high
-past-last t = text-first t (width-none (0xF4 ∷ 0x90 ∷ 0x80 ∷ 0x80 ∷ []) refl) (omega arith)
+past_last t = text_first t (width_none (0xF4 ∷ 0x90 ∷ 0x80 ∷ 0x80 ∷ []) refl) (omega arith)
 
 -- a tail with no lead, and a character cut short
-lone-tail : Text (0x80 ∷ []) → ⊥
+lone_tail : Text (0x80 ∷ []) → ⊥
 unfolding width counted ones
-lone-tail t = text-first t (width-none (0x80 ∷ []) refl) (omega arith)
+lone_tail t = text_first t (width_none (0x80 ∷ []) refl) (omega arith)
 
 cut_short : Text (0xE2 ∷ 0x82 ∷ []) → ⊥
 unfolding width counted ones three
-cut_short t = text-first t (width-none (0xE2 ∷ 0x82 ∷ []) refl) (omega arith)
+cut_short t = text_first t (width_none (0xE2 ∷ 0x82 ∷ []) refl) (omega arith)
 
 -- what is there of it is a proper beginning: €, one byte short
 cut_off : Begins (0xE2 ∷ 0x82 ∷ [])
-cut_off = record { some = omega arith; missing = 0xAC ∷ []; short = omega arith; char = three-bytes }
+cut_off = record { some = omega arith; missing = 0xAC ∷ []; short = omega arith; char = three_bytes }
 
 -- an overlong form, a surrogate and a byte that begins nothing are none, however they go on
-no-beginning : (s : List ℕ) → begins s ≡ false → Begins s → ⊥
-no-beginning s e b = false≢true (sym e ∙ begins-true s b)
+no_beginning : (s : List ℕ) → begins s ≡ false → Begins s → ⊥
+no_beginning s e b = false≢true (sym e ∙ begins_true s b)
 
-overlong-begun : Begins (0xF0 ∷ 0x80 ∷ []) → ⊥
+overlong_begun : Begins (0xF0 ∷ 0x80 ∷ []) → ⊥
 unfolding begins long ones low high
-overlong-begun = no-beginning (0xF0 ∷ 0x80 ∷ []) refl
+overlong_begun = no_beginning (0xF0 ∷ 0x80 ∷ []) refl
 
-surrogate-begun : Begins (0xED ∷ 0xA0 ∷ []) → ⊥
+surrogate_begun : Begins (0xED ∷ 0xA0 ∷ []) → ⊥
 unfolding begins long ones low high
-surrogate-begun = no-beginning (0xED ∷ 0xA0 ∷ []) refl
+surrogate_begun = no_beginning (0xED ∷ 0xA0 ∷ []) refl
 
-nothing-begun : Begins (0xC0 ∷ []) → ⊥
+nothing_begun : Begins (0xC0 ∷ []) → ⊥
 unfolding begins long
-nothing-begun = no-beginning (0xC0 ∷ []) refl
+nothing_begun = no_beginning (0xC0 ∷ []) refl

@@ -7,55 +7,55 @@ use Rattle.std.proofs.Math.Seq.{take-length, take-nil, take-append-add}
 use Rattle.utf8.specs.declared.Encoding.{Encoding}
 use Rattle.utf8.specs.declared.Encoding.TheVariants.{Valid, Bad, Cut}
 use Rattle.utf8.specs.Rfc3629.{Tail, Char, Text, none, more, Longest, Begins, Ends, Encoded, number, place, tail, boundary}
-use Rattle.utf8.specs.Characters.{NoChar, tail-true, true-tail, char-length, char-rest, char-lead, char-inner}
+use Rattle.utf8.specs.Characters.{NoChar, tail_true, true_tail, char_length, char_rest, char_lead, char_inner}
 
 -- ---- put together
 
-pub text-append : {a b : List ℕ} → Text a → Text b → Text (a ++ b)
-text-append none k = k
-text-append {b = b} (more {c} {s} h r) k = rw (append_assoc c s b) (more h (text-append r k))
+pub text_append : {a b : List ℕ} → Text a → Text b → Text (a ++ b)
+text_append none k = k
+text_append {b = b} (more {c} {s} h r) k = rw (append_assoc c s b) (more h (text_append r k))
 
-pub text-char : {c : List ℕ} → Char c → Text c
-text-char {c} h = rw append-nil at (more h none)
+pub text_char : {c : List ℕ} → Char c → Text c
+text_char {c} h = rw append-nil at (more h none)
 
 -- ---- taken apart
 
-text-after-char : {c : List ℕ} → Char c → (t : List ℕ) → {y : List ℕ} → Text y → y ≡ c ++ t → Text t
-text-after-char {c} h t none e = absurd (omega (arith, char-length h, length-append c t, ap length e))
-text-after-char h t (more {c = d} {s = s} k r) e = rw (char-rest k h s t e) at r
+text_after_char : {c : List ℕ} → Char c → (t : List ℕ) → {y : List ℕ} → Text y → y ≡ c ++ t → Text t
+text_after_char {c} h t none e = absurd (omega (arith, char_length h, length-append c t, ap length e))
+text_after_char h t (more {c = d} {s = s} k r) e = rw (char_rest k h s t e) at r
 
 -- what follows a text in a text is a text
-pub text-rest : {a : List ℕ} → Text a → (b : List ℕ) → Text (a ++ b) → Text b
-text-rest none b k = k
-text-rest (more {c} {s} h r) b k = text-rest r b (text-after-char h (s ++ b) k (append_assoc c s b))
+pub text_rest : {a : List ℕ} → Text a → (b : List ℕ) → Text (a ++ b) → Text b
+text_rest none b k = k
+text_rest (more {c} {s} h r) b k = text_rest r b (text_after_char h (s ++ b) k (append_assoc c s b))
 
 -- a text that is not empty begins with a character
-pub text-first : {s : List ℕ} → Text s → NoChar s → 0 < length s → ⊥
-text-first none n h = omega arith
-text-first (more {c} {s} k r) n h = n c s k refl
+pub text_first : {s : List ℕ} → Text s → NoChar s → 0 < length s → ⊥
+text_first none n h = omega arith
+text_first (more {c} {s} k r) n h = n c s k refl
 
-no-char-take : (k : ℕ) (s : List ℕ) → NoChar s → NoChar (take k s)
-no-char-take k s n c t h e = n c (t ++ drop k s) h (sym (take-append-drop k s) ∙ ap (λ (l : List ℕ). l ++ drop k s) e ∙ append_assoc c t (drop k s))
+no_char_take : (k : ℕ) (s : List ℕ) → NoChar s → NoChar (take k s)
+no_char_take k s n c t h e = n c (t ++ drop k s) h (sym (take-append-drop k s) ∙ ap (λ (l : List ℕ). l ++ drop k s) e ∙ append_assoc c t (drop k s))
 
 -- where a text ends and no character begins, the longest text ends
-pub longest-here : (s : List ℕ) (i : ℕ) → i < length s → Text (take i s) → NoChar (drop i s) → Longest s i
-longest-here s i h k n = record { within = omega arith; text = k; last = last }
+pub longest_here : (s : List ℕ) (i : ℕ) → i < length s → Text (take i s) → NoChar (drop i s) → Longest s i
+longest_here s i h k n = record { within = omega arith; text = k; last = last }
   where
     last : (q : ℕ) → i < q → q ≤ length s → Text (take q s) → ⊥
     last q l m t =
         let e : i + (q - i) ≡ q = omega arith in
         let t' : Text (take i s ++ take (q - i) (drop i s)) = rw (← take-add i (q - i) s, e) t in
         let z : q - i ≤ length (drop i s) = rw (length-drop i s) (omega arith) in
-        text-first (text-rest k (take (q - i) (drop i s)) t') (no-char-take (q - i) (drop i s) n)
+        text_first (text_rest k (take (q - i) (drop i s)) t') (no_char_take (q - i) (drop i s) n)
         (rw (length-take-le (q - i) (drop i s) z) (omega arith))
 
 -- ---- no two answers are right
 
-ends-not-text : (s : List ℕ) (p : ℕ) → Ends s p → Text s → ⊥
-ends-not-text s p h t = h.1.last (length s) h.0 (omega arith) (rw (take-length s) t)
+ends_not_text : (s : List ℕ) (p : ℕ) → Ends s p → Text s → ⊥
+ends_not_text s p h t = h.1.last (length s) h.0 (omega arith) (rw (take-length s) t)
 
-ends-unique : (s : List ℕ) (p q : ℕ) → Ends s p → Ends s q → p ≡ q
-ends-unique s p q h k = go (ltb p q) (ltb q p) refl refl
+ends_unique : (s : List ℕ) (p q : ℕ) → Ends s p → Ends s q → p ≡ q
+ends_unique s p q h k = go (ltb p q) (ltb q p) refl refl
   where
     go : (a b : Bool) → ltb p q ≡ a → ltb q p ≡ b → p ≡ q
     go true b e f = absurd (h.1.last q (ltb-true p q e) k.1.within k.1.text)
@@ -64,18 +64,18 @@ ends-unique s p q h k = go (ltb p q) (ltb q p) refl refl
 
 -- from one place the bytes to the end are a proper beginning of a character, or not
 one_way : (s : List ℕ) (p q : ℕ) → Ends s p → (Begins (drop p s) → ⊥) → Ends s q → Begins (drop q s) → ⊥
-one_way s p q h n k b = n (rw (ends-unique s p q h k) b)
+one_way s p q h n k b = n (rw (ends_unique s p q h k) b)
 
-pub encoded-unique : (s : List ℕ) (a b : Encoding) → Encoded s a → Encoded s b → a ≡ b
-encoded-unique s Valid Valid h k = refl
-encoded-unique s Valid (Bad q) h k = absurd (ends-not-text s q k.0 h)
-encoded-unique s Valid (Cut q) h k = absurd (ends-not-text s q k.0 h)
-encoded-unique s (Bad p) Valid h k = absurd (ends-not-text s p h.0 k)
-encoded-unique s (Bad p) (Bad q) h k = ap Bad (ends-unique s p q h.0 k.0)
-encoded-unique s (Bad p) (Cut q) h k = absurd (one_way s p q h.0 h.1 k.0 k.1)
-encoded-unique s (Cut p) Valid h k = absurd (ends-not-text s p h.0 k)
-encoded-unique s (Cut p) (Bad q) h k = absurd (one_way s q p k.0 k.1 h.0 h.1)
-encoded-unique s (Cut p) (Cut q) h k = ap Cut (ends-unique s p q h.0 k.0)
+pub encoded_unique : (s : List ℕ) (a b : Encoding) → Encoded s a → Encoded s b → a ≡ b
+encoded_unique s Valid Valid h k = refl
+encoded_unique s Valid (Bad q) h k = absurd (ends_not_text s q k.0 h)
+encoded_unique s Valid (Cut q) h k = absurd (ends_not_text s q k.0 h)
+encoded_unique s (Bad p) Valid h k = absurd (ends_not_text s p h.0 k)
+encoded_unique s (Bad p) (Bad q) h k = ap Bad (ends_unique s p q h.0 k.0)
+encoded_unique s (Bad p) (Cut q) h k = absurd (one_way s p q h.0 h.1 k.0 k.1)
+encoded_unique s (Cut p) Valid h k = absurd (ends_not_text s p h.0 k)
+encoded_unique s (Cut p) (Bad q) h k = absurd (one_way s q p k.0 k.1 h.0 h.1)
+encoded_unique s (Cut p) (Cut q) h k = ap Cut (ends_unique s p q h.0 k.0)
 
 -- for callers, who do not go by the cases of the answer: its number is small, and its place within the bytes
 pub number_small : (e : Encoding) → number e < 16
@@ -83,57 +83,57 @@ number_small Valid = omega arith
 number_small (Bad p) = omega arith
 number_small (Cut p) = omega arith
 
-pub place-within : (s : List ℕ) (e : Encoding) → Encoded s e → place e ≤ length s
-place-within s Valid h = omega arith
-place-within s (Bad p) h = omega (arith, h.0.0)
-place-within s (Cut p) h = omega (arith, h.0.0)
+pub place_within : (s : List ℕ) (e : Encoding) → Encoded s e → place e ≤ length s
+place_within s Valid h = omega arith
+place_within s (Bad p) h = omega (arith, h.0.0)
+place_within s (Cut p) h = omega (arith, h.0.0)
 
 -- the answer's number says whether the bytes are a text
-pub number-text : (s : List ℕ) (r : Encoding) → Encoded s r → (number r ≡ 0) ↔ Text s
-number-text s Valid h = (λ e. h, λ t. refl)
-number-text s (Bad p) h = (λ e. absurd (omega arith), λ t. absurd (ends-not-text s p h.0 t))
-number-text s (Cut p) h = (λ e. absurd (omega arith), λ t. absurd (ends-not-text s p h.0 t))
+pub number_text : (s : List ℕ) (r : Encoding) → Encoded s r → (number r ≡ 0) ↔ Text s
+number_text s Valid h = (λ e. h, λ t. refl)
+number_text s (Bad p) h = (λ e. absurd (omega arith), λ t. absurd (ends_not_text s p h.0 t))
+number_text s (Cut p) h = (λ e. absurd (omega arith), λ t. absurd (ends_not_text s p h.0 t))
 
 -- ---- boundaries
 
-not-tail : (x : ℕ) → (Tail x → ⊥) → tail x ≡ false
-not-tail x h = go (tail x) refl
+not_tail : (x : ℕ) → (Tail x → ⊥) → tail x ≡ false
+not_tail x h = go (tail x) refl
   where
     go : (b : Bool) → tail x ≡ b → b ≡ false
-    go true e = absurd (h (true-tail x e))
+    go true e = absurd (h (true_tail x e))
     go false e = refl
 
 -- what the test of a place says: no tail stands there
 abbrev pub Between : List ℕ → ℕ → Type 0
 Between s p = p < length s → Tail (get_or s p 0) → ⊥
 
-pub boundary-between : (s : List ℕ) (p : ℕ) → boundary s p ≡ true → Between s p
+pub boundary_between : (s : List ℕ) (p : ℕ) → boundary s p ≡ true → Between s p
 unfolding boundary
-boundary-between s p e h t =
-    let z : false ≡ true = rw (ne_eqb p (length s) (λ d. omega arith), lt-ltb p (length s) h, tail-true (get_or s p 0) t) at e in
+boundary_between s p e h t =
+    let z : false ≡ true = rw (ne_eqb p (length s) (λ d. omega arith), lt-ltb p (length s) h, tail_true (get_or s p 0) t) at e in
     let y : ◌≡◌ {A = ℕ} 0 1 = cc in
     omega arith
 
-pub between-boundary : (s : List ℕ) (p : ℕ) → p ≤ length s → Between s p → boundary s p ≡ true
+pub between_boundary : (s : List ℕ) (p : ℕ) → p ≤ length s → Between s p → boundary s p ≡ true
 unfolding boundary
-between-boundary s p l b = go (ltb p (length s)) refl
+between_boundary s p l b = go (ltb p (length s)) refl
   where
     go : (q : Bool) → ltb p (length s) ≡ q → eqb p (length s) || (ltb p (length s) && not (tail (get_or s p 0))) ≡ true
     go true e =
         let h = ltb-true p (length s) e in
-        rw (ne_eqb p (length s) (λ d. omega arith), e, not-tail (get_or s p 0) (b h))
+        rw (ne_eqb p (length s) (λ d. omega arith), e, not_tail (get_or s p 0) (b h))
     go false e = rw (eq-eqb p (length s) (omega (arith, ltb-false p (length s) e)))
 
 -- inside a character every byte is a tail, so a place that has none is at its start or past it
-between-text : {s : List ℕ} → Text s → (p : ℕ) → p ≤ length s → Between s p → Text (take p s)
-between-text none p l b = rw (take-nil p) none
-between-text (more {c} {s} h r) p l b = go (ltb 0 p) (ltb p (length c)) refl refl (λ q m n. between-text r q m n)
+between_text : {s : List ℕ} → Text s → (p : ℕ) → p ≤ length s → Between s p → Text (take p s)
+between_text none p l b = rw (take-nil p) none
+between_text (more {c} {s} h r) p l b = go (ltb 0 p) (ltb p (length c)) refl refl (λ q m n. between_text r q m n)
   where
     go : (x y : Bool) → ltb 0 p ≡ x → ltb p (length c) ≡ y → ((q : ℕ) → q ≤ length s → Between s q → Text (take q s)) → Text (take p (c ++ s))
     go false y e f rest = let z : p ≡ 0 = omega (arith, ltb-false 0 p e) in rw z none
     go true true e f rest =
         let k = ltb-true p (length c) f in
-        absurd (b (omega (arith, length-append c s)) (rw (get_or-append c s 0 p k) (char-inner h p (ltb-true 0 p e) k)))
+        absurd (b (omega (arith, length-append c s)) (rw (get_or-append c s 0 p k) (char_inner h p (ltb-true 0 p e) k)))
     go true false e f rest = past (p - length c) (omega (arith, ltb-false p (length c) f))
       where
         past : (q : ℕ) → p ≡ length c + q → Text (take p (c ++ s))
@@ -141,16 +141,16 @@ between-text (more {c} {s} h r) p l b = go (ltb 0 p) (ltb p (length c)) refl ref
             rw (z, take-append-add c s q)
             (more h (rest q (omega (arith, length-append c s)) (λ k t. b (omega (arith, length-append c s)) (rw (z, get_or-append-add c s q 0) t))))
 
-text-between : {s : List ℕ} → Text s → (p : ℕ) → Text (take p s) → Between s p
-text-between {s} t p k h x =
-    let r : Text (drop p s) = text-rest k (drop p s) (rw (take-append-drop p s) t) in
+text_between : {s : List ℕ} → Text s → (p : ℕ) → Text (take p s) → Between s p
+text_between {s} t p k h x =
+    let r : Text (drop p s) = text_rest k (drop p s) (rw (take-append-drop p s) t) in
     first r (rw (length-drop p s) (omega arith)) (rw (get_or-drop p s 0 0, add-zero p) x)
   where
     first : {y : List ℕ} → Text y → 0 < length y → Tail (get_or y 0 0) → ⊥
     first none l z = omega arith
-    first (more {c} {s} k r) l z = char-lead k s z
+    first (more {c} {s} k r) l z = char_lead k s z
 
 -- a place of a text is a boundary exactly if a text ends there
-pub boundary-text : {s : List ℕ} → Text s → (p : ℕ) → p ≤ length s → (boundary s p ≡ true) ↔ Text (take p s)
-boundary-text {s} t p l =
-    (λ e. between-text t p l (boundary-between s p e), λ k. between-boundary s p l (text-between t p k))
+pub boundary_text : {s : List ℕ} → Text s → (p : ℕ) → p ≤ length s → (boundary s p ≡ true) ↔ Text (take p s)
+boundary_text {s} t p l =
+    (λ e. between_text t p l (boundary_between s p e), λ k. between_boundary s p l (text_between t p k))

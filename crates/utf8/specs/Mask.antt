@@ -8,13 +8,13 @@ use Rattle.std.specs.Int.Bits.{bit_and}
 use Rattle.std.proofs.lemmas.Nat.{and_block}
 use Rattle.laws.specs.Tests.{and_left, and_right, and_both, as_one, beq}
 use Rattle.laws.specs.Below.{at}
-use Rattle.laws.specs.Little.{fromLittle}
-use Rattle.utf8.specs.Plain.{plain, allPlain}
+use Rattle.laws.specs.Little.{from_little}
+use Rattle.utf8.specs.Plain.{plain, all_plain}
 
 -- all bytes are below 80
-unfoldable allLow : List ℕ → Bool
-allLow [] = true
-allLow (x ∷ s) = ltb x 0x80 && allLow s
+unfoldable all_low : List ℕ → Bool
+all_low [] = true
+all_low (x ∷ s) = ltb x 0x80 && all_low s
 
 -- what each byte leaves of 9F
 unfoldable left : List ℕ → List ℕ
@@ -45,27 +45,27 @@ no_bits x y = as_one (eqb (x * 256 + y) 0) (eqb y 0 && eqb x 0) to from
 
 -- of the first n bytes: all are below 80 exactly if their number has none of the bits
 masked : (n : ℕ) (s : List ℕ) → ((i : ℕ) → get_or s i 0 < 256)
-    → eqb (bit_and (fromLittle (take n s)) (fromLittle (replicate n 0x80))) 0 ≡ allLow (take n s)
-unfolding allLow
+    → eqb (bit_and (from_little (take n s)) (from_little (replicate n 0x80))) 0 ≡ all_low (take n s)
+unfolding all_low
 masked zero s f = refl
 masked (suc n) [] f = refl
 masked (suc n) (b ∷ s) f =
     let low = f 0 in
-    let x = fromLittle (take n s) in
-    let m = fromLittle (replicate n 0x80) in
+    let x = from_little (take n s) in
+    let m = from_little (replicate n 0x80) in
     let number : b + 256 * x ≡ x * 256 + b = omega arith in
     let mask : 0x80 + 256 * m ≡ m * 256 + 0x80 = omega arith in
     let parts : bit_and (x * 256 + b) (m * 256 + 0x80) ≡ bit_and x m * 256 + bit_and b 0x80 = and_block 8 x m b 0x80 low (omega arith) in
     rw (number, mask, parts, no_bits (bit_and x m) (bit_and b 0x80), highest b low, masked n s (λ i. f (suc i)))
 
 -- plain bytes are below 80, and so is what they leave
-plain-left : (s : List ℕ) → allLow s && allLow (left s) ≡ allPlain s
-unfolding allLow left allPlain plain
-plain-left [] = refl
-plain-left (x ∷ s) = rw (from-20, ← plain-left s) (by (ltb x 0x80) (allLow s) (leb 0x20 x) (allLow (left s)))
+plain_left : (s : List ℕ) → all_low s && all_low (left s) ≡ all_plain s
+unfolding all_low left all_plain plain
+plain_left [] = refl
+plain_left (x ∷ s) = rw (from_20, ← plain_left s) (by (ltb x 0x80) (all_low s) (leb 0x20 x) (all_low (left s)))
   where
-    from-20 : ltb (0x9F - x) 0x80 ≡ leb 0x20 x
-    from-20 =
+    from_20 : ltb (0x9F - x) 0x80 ≡ leb 0x20 x
+    from_20 =
         as_one (ltb (0x9F - x) 0x80) (leb 0x20 x) (λ t. le-leb 0x20 x (omega (arith, ltb-true (0x9F - x) 0x80 t)))
         (λ t. lt-ltb (0x9F - x) 0x80 (omega (arith, leb-true 0x20 x t)))
 
@@ -78,19 +78,19 @@ plain-left (x ∷ s) = rw (from-20, ← plain-left s) (by (ltb x 0x80) (allLow s
     by false b false d = refl
 
 -- nothing is borrowed where bytes below 80 are taken from 9F each
-none-borrowed : (s : List ℕ) → allLow s ≡ true → fromLittle (left s) + fromLittle s ≡ fromLittle (replicate (length s) 0x9F)
-unfolding allLow left
-none-borrowed [] t = refl
-none-borrowed (x ∷ s) t =
-    let low = ltb-true x 0x80 (and_left (ltb x 0x80) (allLow s) t) in
-    let others = none-borrowed s (and_right (ltb x 0x80) (allLow s) t) in
+none_borrowed : (s : List ℕ) → all_low s ≡ true → from_little (left s) + from_little s ≡ from_little (replicate (length s) 0x9F)
+unfolding all_low left
+none_borrowed [] t = refl
+none_borrowed (x ∷ s) t =
+    let low = ltb-true x 0x80 (and_left (ltb x 0x80) (all_low s) t) in
+    let others = none_borrowed s (and_right (ltb x 0x80) (all_low s) t) in
     omega arith
 
-left-byte : (s : List ℕ) (i : ℕ) → get_or (left s) i 0 < 256
+left_byte : (s : List ℕ) (i : ℕ) → get_or (left s) i 0 < 256
 unfolding left
-left-byte [] i = omega arith
-left-byte (x ∷ s) zero = omega arith
-left-byte (x ∷ s) (suc i) = left-byte s i
+left_byte [] i = omega arith
+left_byte (x ∷ s) zero = omega arith
+left_byte (x ∷ s) (suc i) = left_byte s i
 
 -- the bit above the four bytes is not in the mask
 above : (x : ℕ) → x < 2 ^ 32 → bit_and (2 ^ 32 + x) 0x80808080 ≡ bit_and x 0x80808080
@@ -98,23 +98,23 @@ above x h = omega (arith, and_block 32 1 0 x 0x80808080 h (omega arith))
 
 -- of the first four bytes: all are plain exactly if neither number has one of the bits
 pub masked_plain : (s : List ℕ) → 4 ≤ length s → ((i : ℕ) → get_or s i 0 < 256)
-    → eqb (bit_and (fromLittle (take 4 s)) 0x80808080) 0 && eqb (bit_and (0x19F9F9F9F - fromLittle (take 4 s)) 0x80808080) 0 ≡ allPlain (take 4 s)
+    → eqb (bit_and (from_little (take 4 s)) 0x80808080) 0 && eqb (bit_and (0x19F9F9F9F - from_little (take 4 s)) 0x80808080) 0 ≡ all_plain (take 4 s)
 unfolding left
 masked_plain [] h f = absurd (omega arith)
 masked_plain (a ∷ []) h f = absurd (omega arith)
 masked_plain (a ∷ b ∷ []) h f = absurd (omega arith)
 masked_plain (a ∷ b ∷ c ∷ []) h f = absurd (omega arith)
-masked_plain (a ∷ b ∷ c ∷ d ∷ t) h f = rw (masked 4 (a ∷ b ∷ c ∷ d ∷ t) f) (where-so (allLow s) _ _ second ∙ plain-left s)
+masked_plain (a ∷ b ∷ c ∷ d ∷ t) h f = rw (masked 4 (a ∷ b ∷ c ∷ d ∷ t) f) (where_so (all_low s) _ _ second ∙ plain_left s)
   where
     s : List ℕ
     s = a ∷ b ∷ c ∷ d ∷ []
 
-    where-so : (p q r : Bool) → (p ≡ true → q ≡ r) → p && q ≡ p && r
-    where-so true q r g = g refl
-    where-so false q r g = refl
+    where_so : (p q r : Bool) → (p ≡ true → q ≡ r) → p && q ≡ p && r
+    where_so true q r g = g refl
+    where_so false q r g = refl
 
-    second : allLow s ≡ true → eqb (bit_and (0x19F9F9F9F - fromLittle s) 0x80808080) 0 ≡ allLow (left s)
+    second : all_low s ≡ true → eqb (bit_and (0x19F9F9F9F - from_little s) 0x80808080) 0 ≡ all_low (left s)
     second low =
-        let sum = none-borrowed s low in
-        let apart : 0x19F9F9F9F - fromLittle s ≡ 2 ^ 32 + fromLittle (left s) = omega arith in
-        rw (apart, above (fromLittle (left s)) (omega arith)) (masked 4 (left s) (left-byte s))
+        let sum = none_borrowed s low in
+        let apart : 0x19F9F9F9F - from_little s ≡ 2 ^ 32 + from_little (left s) = omega arith in
+        rw (apart, above (from_little (left s)) (omega arith)) (masked 4 (left s) (left_byte s))

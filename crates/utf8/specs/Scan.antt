@@ -72,5 +72,5 @@ begins s =
     (cond (eqb (length s) 2) (second (get_or s 0 0) (get_or s 1 0)) (triple s))))
 
 -- what is said of the bytes from a place on that no character begins
-unfoldable pub brokenAt : List ℕ → ℕ → Encoding
-brokenAt s p = cond (begins s) (Cut p) (Bad p)
+unfoldable pub broken_at : List ℕ → ℕ → Encoding
+broken_at s p = cond (begins s) (Cut p) (Bad p)

@@ -1,9 +1,9 @@
 // UTF-8 (RFC 3629): whether bytes are a text, where the longest text that begins them ends, and where characters start.
 ghost use Rattle.std.specs.Prelude.{◌≡◌, ◌<◌, ◌≤◌, ◌^◌, true, length, take};
 ghost use Rattle.utf8.specs.Rfc3629.{Encoded, number as number', place as place', tail as tail', boundary as boundary'};
-ghost use Rattle.utf8.specs.Scan.{ones as ones', low as low', high as high', second as second', two as two', three as three', four as four', width, long as long', begins as begins', brokenAt};
-ghost use Rattle.laws.specs.Little.{fromLittle};
-ghost use Rattle.utf8.specs.Plain.{plain as plain', allPlain, fewPlain, manyPlain, Stops, Goes};
+ghost use Rattle.utf8.specs.Scan.{ones as ones', low as low', high as high', second as second', two as two', three as three', four as four', width, long as long', begins as begins', broken_at};
+ghost use Rattle.laws.specs.Little.{from_little};
+ghost use Rattle.utf8.specs.Plain.{plain as plain', all_plain, few_plain, many_plain, Stops, Goes};
 
 // A tail, a byte that goes on with a character, is from 80 to BF.
 const TAIL_FIRST: u8 = 0x80;
@@ -199,7 +199,7 @@ fn plain_byte(b: u8) -> bool
 // The number of the first four bytes, the lowest first.
 fn number_of_four(s: &[u8]) -> u64
     requires { 4 ≤ length s.now }
-    ensures { (result ≡ fromLittle (take 4 s.now)) × (result < 2 ^ 32) }
+    ensures { (result ≡ from_little (take 4 s.now)) × (result < 2 ^ 32) }
 {
     s[0] as u64 + 256 * (s[1] as u64 + 256 * (s[2] as u64 + 256 * s[3] as u64))
 }
@@ -207,7 +207,7 @@ fn number_of_four(s: &[u8]) -> u64
 // Whether the first four bytes are plain: none of them has the highest bit, and neither has what each leaves of 9F.
 fn plain_four(s: &[u8]) -> bool
     requires { 4 ≤ length s.now }
-    ensures { result ≡ allPlain (take 4 s.now) }
+    ensures { result ≡ all_plain (take 4 s.now) }
 {
     let n = number_of_four(s);
     (n & HIGHEST_BITS == 0) & ((ABOVE_CONTROLS - n) & HIGHEST_BITS == 0)
@@ -216,7 +216,7 @@ fn plain_four(s: &[u8]) -> bool
 // Whether the first eight bytes are.
 fn plain_eight(s: &[u8]) -> bool
     requires { 8 ≤ length s.now }
-    ensures { result ≡ allPlain (take 8 s.now) }
+    ensures { result ≡ all_plain (take 8 s.now) }
 {
     plain_four(s) & plain_four(&s[FOUR..])
 }
@@ -224,7 +224,7 @@ fn plain_eight(s: &[u8]) -> bool
 // Whether the first sixteen bytes are.
 fn plain_block(s: &[u8]) -> bool
     requires { 16 ≤ length s.now }
-    ensures { result ≡ allPlain (take 16 s.now) }
+    ensures { result ≡ all_plain (take 16 s.now) }
 {
     plain_eight(s) & plain_eight(&s[EIGHT..])
 }
@@ -232,7 +232,7 @@ fn plain_block(s: &[u8]) -> bool
 // Whether the first sixty-four bytes are.
 fn plain_page(s: &[u8]) -> bool
     requires { 64 ≤ length s.now }
-    ensures { result ≡ allPlain (take 64 s.now) }
+    ensures { result ≡ all_plain (take 64 s.now) }
 {
     plain_block(s)
         & plain_block(&s[BLOCK..])
@@ -243,7 +243,7 @@ fn plain_page(s: &[u8]) -> bool
 // Whether up to three bytes are: the first, the middle and the last, which may be one.
 fn plain_three(s: &[u8]) -> bool
     requires { length s.now < 4 }
-    ensures { result ≡ allPlain s.now }
+    ensures { result ≡ all_plain s.now }
 {
     let n = s.len();
     if n == 0 {
@@ -282,7 +282,7 @@ fn blocks(s: &[u8]) -> usize
 
 // Whether there are more than sixteen bytes, and all are plain: blocks or pages of them, and the last one, which need not begin where the one before it ends.
 pub fn plain_many(s: &[u8]) -> bool
-    ensures { result ≡ manyPlain s.now }
+    ensures { result ≡ many_plain s.now }
 {
     let n = s.len();
     if n <= BLOCK {
@@ -302,7 +302,7 @@ pub fn plain_many(s: &[u8]) -> bool
 
 // Whether there are at most sixteen bytes, and all are plain. Two tests that overlap reach them all.
 pub fn plain_few(s: &[u8]) -> bool
-    ensures { result ≡ fewPlain s.now }
+    ensures { result ≡ few_plain s.now }
 {
     let n = s.len();
     if n < FOUR {
@@ -319,7 +319,7 @@ pub fn plain_few(s: &[u8]) -> bool
 
 // How many of the first bytes are plain for sure: pages of them, and blocks behind those.
 fn plain_start(s: &[u8]) -> usize
-    ensures { (result ≤ length s.now) × (allPlain (take result s.now) ≡ true) }
+    ensures { (result ≤ length s.now) × (all_plain (take result s.now) ≡ true) }
 {
     let i = pages(s);
     i + blocks(&s[i..])
@@ -375,7 +375,7 @@ fn begins(s: &[u8]) -> bool
 
 // What is said of bytes that are no text, from the place where the longest text that begins them ends.
 fn broken(rest: &[u8], at: usize) -> Encoding
-    ensures { result ≡ brokenAt rest.now at }
+    ensures { result ≡ broken_at rest.now at }
 {
     if begins(rest) {
         return Encoding::Cut(at);

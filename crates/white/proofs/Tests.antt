@@ -7,7 +7,7 @@ use lib.Dec.{eqb, leb}
 use borrow.Author.Tests.{not-true}
 use Rattle.laws.specs.Among.{among}
 use Rattle.laws.specs.Below.{at}
-use Rattle.white.specs.Steps.{ones, twos, threes, beginsOneOf, spaces}
+use Rattle.white.specs.Steps.{ones, twos, threes, begins_one_of, spaces}
 
 agree : Bool → Bool → Bool
 agree true b = b
@@ -19,25 +19,25 @@ agreed true b h = sym h
 agreed false b h = sym (not-true b h)
 
 one_right : ℕ → Bool
-one_right a = agree ((leb 0x09 a && leb a 0x0D) || eqb a 0x20) (beginsOneOf (a ∷ []) ones)
+one_right a = agree ((leb 0x09 a && leb a 0x0D) || eqb a 0x20) (begins_one_of (a ∷ []) ones)
 
-pub one-is : (a : ℕ) → a < 256 → ((leb 0x09 a && leb a 0x0D) || eqb a 0x20) ≡ beginsOneOf (a ∷ []) ones
-unfolding one_right agree beginsOneOf
-one-is a h = agreed _ _ (at one_right 256 refl a h)
+pub one_is : (a : ℕ) → a < 256 → ((leb 0x09 a && leb a 0x0D) || eqb a 0x20) ≡ begins_one_of (a ∷ []) ones
+unfolding one_right agree begins_one_of
+one_is a h = agreed _ _ (at one_right 256 refl a h)
 
-space-right : ℕ → Bool
-space-right c = agree ((leb 0x80 c && leb c 0x8A) || (eqb c 0xA8 || (eqb c 0xA9 || eqb c 0xAF))) (among c spaces)
+space_right : ℕ → Bool
+space_right c = agree ((leb 0x80 c && leb c 0x8A) || (eqb c 0xA8 || (eqb c 0xA9 || eqb c 0xAF))) (among c spaces)
 
-pub space-is : (c : ℕ) → c < 256 → ((leb 0x80 c && leb c 0x8A) || (eqb c 0xA8 || (eqb c 0xA9 || eqb c 0xAF))) ≡ among c spaces
-unfolding space-right agree
-space-is c h = agreed _ _ (at space-right 256 refl c h)
+pub space_is : (c : ℕ) → c < 256 → ((leb 0x80 c && leb c 0x8A) || (eqb c 0xA8 || (eqb c 0xA9 || eqb c 0xAF))) ≡ among c spaces
+unfolding space_right agree
+space_is c h = agreed _ _ (at space_right 256 refl c h)
 
 both_of : (p x y : Bool) → (p && (x || y)) ≡ ((p && (x && true)) || ((p && (y && true)) || false))
 both_of true x y = simp (and-true, or-false)
 both_of false x y = refl
 
-pub two_is : (a b : ℕ) → (eqb a 0xC2 && (eqb b 0x85 || eqb b 0xA0)) ≡ beginsOneOf (a ∷ b ∷ []) twos
-unfolding beginsOneOf
+pub two_is : (a b : ℕ) → (eqb a 0xC2 && (eqb b 0x85 || eqb b 0xA0)) ≡ begins_one_of (a ∷ b ∷ []) twos
+unfolding begins_one_of
 two_is a b = both_of (eqb a 0xC2) (eqb b 0x85) (eqb b 0xA0)
 
 -- the characters that share their first two bytes: p and q say that these are there, and the last byte is c
@@ -54,10 +54,10 @@ row_is true false c (z ∷ zs) rest = row_is true false c zs rest
 row_is false q c [] rest = refl
 row_is false q c (z ∷ zs) rest = row_is false q c zs rest
 
-pub three-is : (a b c : ℕ) (t : Bool) → t ≡ among c spaces →
+pub three_is : (a b c : ℕ) (t : Bool) → t ≡ among c spaces →
     ((eqb a 0xE1 && (eqb b 0x9A && eqb c 0x80)) || ((eqb a 0xE2 && (eqb b 0x80 && t)) || ((eqb a 0xE2 && (eqb b 0x81 && eqb c 0x9F)) || (eqb a 0xE3 && (eqb b 0x80 && eqb c 0x80)))))
-    ≡ beginsOneOf (a ∷ b ∷ c ∷ []) threes
-unfolding row beginsOneOf
-three-is a b c t e =
+    ≡ begins_one_of (a ∷ b ∷ c ∷ []) threes
+unfolding row begins_one_of
+three_is a b c t e =
     let last : Bool = (eqb a 0xE2 && (eqb b 0x81 && (eqb c 0x9F && true))) || ((eqb a 0xE3 && (eqb b 0x80 && (eqb c 0x80 && true))) || false) in
     rw e (sym (ap (λ (r : Bool). (eqb a 0xE1 && (eqb b 0x9A && (eqb c 0x80 && true))) || r) (row_is (eqb a 0xE2) (eqb b 0x80) c spaces last) ∙ simp (and-true, or-false)))

@@ -1,6 +1,6 @@
 -- 01, section 4: "split at White_Space characters .. Exactly two non-empty parts (empty ones don't count)". The parts are the longest runs of bytes that belong to no White_Space character.
 use Rattle.std.specs.Prelude.{ℕ, zero, suc, ◌+◌, ◌-◌, List, [], ◌∷◌, ◌++◌, Bool, true, false, length, get_or, ltb}
-use Rattle.white.specs.White.{whiteLength}
+use Rattle.white.specs.White.{white_length}
 use Rattle.white.specs.declared.Parts.{Parts}
 use Rattle.white.specs.declared.Part.{Part}
 
@@ -15,7 +15,7 @@ span i n = record { start = i; len = n }
 unfoldable pub marks : ℕ → List ℕ → List Bool
 marks k [] = []
 marks (suc k) (b ∷ s) = true ∷ marks k s
-marks zero (b ∷ s) = ltb 0 (whiteLength (b ∷ s)) ∷ marks (whiteLength (b ∷ s) - 1) s
+marks zero (b ∷ s) = ltb 0 (white_length (b ∷ s)) ∷ marks (white_length (b ∷ s) - 1) s
 
 -- the part of n bytes that ends before place i; an empty one does not count
 abbrev pub closed : ℕ → ℕ → List Span
@@ -35,8 +35,8 @@ parts s = runs 0 0 (marks 0 s)
 abbrev pub second : List Span → Span
 second ps = get_or ps 1 (span 0 0)
 
-unfoldable pub splitOf : List ℕ → Parts
-splitOf s = record { count = length (parts s); start = (second (parts s)).start; len = (second (parts s)).len }
+unfoldable pub split_of : List ℕ → Parts
+split_of s = record { count = length (parts s); start = (second (parts s)).start; len = (second (parts s)).len }
 
 -- the first of them, and 0 and 0 where there is none
 abbrev pub first : List Span → Span

@@ -1,9 +1,9 @@
 // The parts of a text between its White_Space characters (01, section 4). The text is UTF-8; any bytes are taken.
 ghost use Rattle.std.specs.Prelude.{◌≡◌, [], ◌∷◌, ◌+◌, ◌-◌, ◌≤◌, ◌<◌, length, drop};
 ghost use Rattle.laws.specs.Among.{among};
-ghost use Rattle.white.specs.White.{whiteLength};
-ghost use Rattle.white.specs.Parts.{splitOf, first_of};
-ghost use Rattle.white.specs.Steps.{ones, twos, threes, beginsOneOf, spaces, SkipsWhite, SkipsPart, counted};
+ghost use Rattle.white.specs.White.{white_length as white_length'};
+ghost use Rattle.white.specs.Parts.{split_of, first_of};
+ghost use Rattle.white.specs.Steps.{ones, twos, threes, begins_one_of, spaces, SkipsWhite, SkipsPart, counted};
 
 // One byte: 9 to D and 20.
 const TAB: u8 = 0x09;
@@ -79,14 +79,14 @@ pub struct Part {
 
 // Whether a byte is a White_Space character by itself.
 fn one(a: u8) -> bool
-    ensures { result ≡ beginsOneOf (a ∷ []) ones }
+    ensures { result ≡ begins_one_of (a ∷ []) ones }
 {
     ((TAB <= a) & (a <= CARRIAGE_RETURN)) | (a == SPACE)
 }
 
 // Whether two bytes are one.
 fn two(a: u8, b: u8) -> bool
-    ensures { result ≡ beginsOneOf (a ∷ b ∷ []) twos }
+    ensures { result ≡ begins_one_of (a ∷ b ∷ []) twos }
 {
     (a == LATIN_LEAD) & ((b == NEXT_LINE) | (b == NO_BREAK_SPACE))
 }
@@ -101,7 +101,7 @@ fn space(c: u8) -> bool
 
 // Whether three bytes are one.
 fn three(a: u8, b: u8, c: u8) -> bool
-    ensures { result ≡ beginsOneOf (a ∷ b ∷ c ∷ []) threes }
+    ensures { result ≡ begins_one_of (a ∷ b ∷ c ∷ []) threes }
 {
     ((a == OGHAM_LEAD) & ((b == OGHAM_MIDDLE) & (c == OGHAM_LAST)))
         | (((a == PUNCTUATION_LEAD) & ((b == PUNCTUATION_MIDDLE) & space(c)))
@@ -111,7 +111,7 @@ fn three(a: u8, b: u8, c: u8) -> bool
 
 // How many bytes the White_Space character takes that stands at a place; 0 where none does.
 pub fn white_length(s: &[u8], at: usize) -> usize
-    ensures { result ≡ whiteLength (drop at s.now) }
+    ensures { result ≡ white_length' (drop at s.now) }
 {
     if s.len() <= at {
         return 0;
@@ -153,7 +153,7 @@ fn skip_white(s: &[u8], at: usize) -> usize
 
 // The end of the part that starts at `at`: the next place where a White_Space character stands, or the text's end.
 fn skip_part(s: &[u8], at: usize) -> usize
-    requires { (at < length s.now) × (whiteLength (drop at s.now) ≡ 0) }
+    requires { (at < length s.now) × (white_length' (drop at s.now) ≡ 0) }
     ensures { SkipsPart s.now at result }
 {
     let mut i = at + 1;
@@ -187,7 +187,7 @@ fn count_part(p: Parts, at: usize, end: usize) -> Parts
 
 // The parts of a text that are not empty: how many there are, and where the second one stands.
 pub fn split(s: &[u8]) -> Parts
-    ensures { result ≡ splitOf s.now }
+    ensures { result ≡ split_of s.now }
 {
     let mut p = Parts {
         count: 0,

@@ -3,16 +3,16 @@
 use Rattle.std.specs.Prelude.{ℕ, zero, suc, ◌+◌, ◌/◌, ◌^◌, ◌≤◌, ◌<◌, ◌≡◌, refl, List, [], ◌∷◌, ◌++◌, Bool, true, false, eqb, length, get_or}
 use Rattle.std.proofs.Common.{arith, ◌∙◌, ap, sym}
 use Rattle.std.proofs.Math.Nat.{pow-zero, pow-succ'}
-use Rattle.laws.specs.Little.{little, fromLittle}
+use Rattle.laws.specs.Little.{little, from_little}
 use Rattle.append.specs.declared.Stream.{Stream}
 use Rattle.append.specs.declared.Answer.{Answer}
 use Rattle.append.specs.declared.Answer.TheVariants.{Added}
 use Rattle.append.specs.Append.{Appends, news, number, code}
-use Rattle.append.specs.Laws.{place-small}
-use Rattle.append.specs.Lists.{Lent, tokensOf, textFrom, AppendsAll, AllFine, all-succeed, Held, held_on, Appended, appended, succeeds, output-length, zero-added}
+use Rattle.append.specs.Laws.{place_small}
+use Rattle.append.specs.Lists.{Lent, tokens_of, text_from, AppendsAll, AllFine, all_succeed, Held, held_on, Appended, appended, succeeds, output_length, zero_added}
 use Rattle.append.specs.Lists.{none as no-append, one as one-append}
-use Rattle.wire.specs.Wire.{wellFormed, unpacked, bit_of, packed, repacked, Done, Crosses}
-use Rattle.wire.specs.Laws.{Fields, count-read, line_read, column-read, little-length, well}
+use Rattle.wire.specs.Wire.{well_formed, unpacked, bit_of, packed, repacked, Done, Crosses}
+use Rattle.wire.specs.Laws.{Fields, count_read, line_read, column_read, little_length, well}
 
 -- calls one after another, all of which succeed: from the record's bytes and the output to the record's bytes and the output
 pub data CrossesAll : List ℕ → List ℕ → List Lent → List ℕ → List ℕ → Type 0 where
@@ -21,17 +21,17 @@ pub data CrossesAll : List ℕ → List ℕ → List Lent → List ℕ → List 
       → Crosses r out l.0 l.1 answer m o → answer < 2 ^ 32 → CrossesAll m o ls r' out' → CrossesAll r out (l ∷ ls) r' out'
 
 -- ---- a record in its bytes is read back
-from-little : (k n : ℕ) → n < 256 ^ k → fromLittle (little k n) ≡ n
-from-little zero n h = omega (arith, pow-zero 256)
-from-little (suc k) n h = omega (arith, from-little k (n / 256) (omega (arith, pow-succ' 256 k)), h)
+from_little_lem : (k n : ℕ) → n < 256 ^ k → from_little (little k n) ≡ n
+from_little_lem zero n h = omega (arith, pow-zero 256)
+from_little_lem (suc k) n h = omega (arith, from_little_lem k (n / 256) (omega (arith, pow-succ' 256 k)), h)
 
-packed-fields : (s : Stream) → Fields (packed s) (bit_of s.spaced) (little 8 s.count) (little 8 s.line) (little 8 s.column)
+packed_fields : (s : Stream) → Fields (packed s) (bit_of s.spaced) (little 8 s.count) (little 8 s.line) (little 8 s.column)
 unfolding packed
-packed-fields s = record { is = refl; count = little-length 8 s.count; line = little-length 8 s.line; column = little-length 8 s.column }
+packed_fields s = record { is = refl; count = little_length 8 s.count; line = little_length 8 s.line; column = little_length 8 s.column }
 
-bit-read : (b : Bool) → eqb (bit_of b) 1 ≡ b
-bit-read true = refl
-bit-read false = refl
+bit_read : (b : Bool) → eqb (bit_of b) 1 ≡ b
+bit_read true = refl
+bit_read false = refl
 
 first_read : (s : Stream) → get_or (packed s) 0 0 ≡ bit_of s.spaced
 unfolding packed
@@ -41,23 +41,23 @@ first_read s = refl
 pub read_back : (s : Stream) → s.count < 2 ^ 64 → Held s → unpacked (packed s) ≡ s
 unfolding unpacked
 read_back s h k =
-    let f = packed-fields s in
+    let f = packed_fields s in
     rw (
       first_read s,
-      bit-read s.spaced,
-      count-read f,
+      bit_read s.spaced,
+      count_read f,
       line_read f,
-      column-read f,
-      from-little 8 s.count h,
-      from-little 8 s.line (omega (arith, k.line)),
-      from-little 8 s.column (omega (arith, k.column)),
+      column_read f,
+      from_little_lem 8 s.count h,
+      from_little_lem 8 s.line (omega (arith, k.line)),
+      from_little_lem 8 s.column (omega (arith, k.column)),
     )
 
-packed-well : (s : Stream) → wellFormed (packed s) ≡ true
-unfolding wellFormed packed
-packed-well s = by s.spaced
+packed_well : (s : Stream) → well_formed (packed s) ≡ true
+unfolding well_formed packed
+packed_well s = by s.spaced
   where
-    by : (b : Bool) → wellFormed (bit_of b ∷ (little 8 s.count ++ (little 8 s.line ++ little 8 s.column))) ≡ true
+    by : (b : Bool) → well_formed (bit_of b ∷ (little 8 s.count ++ (little 8 s.line ++ little 8 s.column))) ≡ true
     by true = refl
     by false = refl
 
@@ -65,58 +65,58 @@ packed-well s = by s.spaced
 record Crossed (r out : List ℕ) (l : Lent) (r' out' : List ℕ) : Type 0 where
   n : ℕ
   appends : Appends (unpacked r) out l.0 l.1 (Added n) (unpacked r') out'
-  stays : wellFormed r' ≡ true
+  stays : well_formed r' ≡ true
 
-low-number : (a : Answer) → code a < 2 ^ 32 → number a ≡ 0
+low_number : (a : Answer) → code a < 2 ^ 32 → number a ≡ 0
 unfolding code
-low-number a h = omega arith
+low_number a h = omega arith
 
 crossed : {r out : List ℕ} {l : Lent} {answer : ℕ} {r' out' : List ℕ} → Crosses r out l.0 l.1 answer r' out' → answer < 2 ^ 32 → length out < 2 ^ 64 → Crossed r out l r' out'
 unfolding code
-crossed {r} {out} {l} {answer} {r'} {out'} x low fits = by (wellFormed r) x.done
+crossed {r} {out} {l} {answer} {r'} {out'} x low fits = by (well_formed r) x.done
   where
     z : number x.verdict ≡ 0
-    z = low-number x.verdict (omega (arith, x.answers))
+    z = low_number x.verdict (omega (arith, x.answers))
 
     by : (b : Bool) → Done b (unpacked r) out l.0 l.1 x.verdict x.left out' → Crossed r out l r' out'
     by true d =
         let n = length (news (unpacked r) l.0 l.1) in
-        let e : x.verdict ≡ Added n = zero-added d z in
+        let e : x.verdict ≡ Added n = zero_added d z in
         let a : Appends (unpacked r) out l.0 l.1 (Added n) x.left out' = rw e at d in
         let p : r' ≡ packed x.left = x.leaves ∙ ap (λ (v : Answer). repacked v x.left r) e in
-        record { n = n; appends = rw (p, read_back x.left (omega (arith, (succeeds a).fits)) (held_on (succeeds a))) a; stays = rw p (packed-well x.left) }
+        record { n = n; appends = rw (p, read_back x.left (omega (arith, (succeeds a).fits)) (held_on (succeeds a))) a; stays = rw p (packed_well x.left) }
     by false d = let y : number x.verdict ≡ 1 = ap number d.0 in absurd (omega arith)
 
 pub all_append : {r out : List ℕ} {ls : List Lent} {r' out' : List ℕ} → CrossesAll r out ls r' out' → length out < 2 ^ 64 → AppendsAll (unpacked r) out ls (unpacked r') out'
 all_append none fits = no-append
 all_append (one x low xs) fits =
     let c = crossed x low fits in
-    one-append c.appends (all_append xs (omega (arith, output-length (succeeds c.appends))))
+    one-append c.appends (all_append xs (omega (arith, output_length (succeeds c.appends))))
 
 -- so the bytes written, the bit, the count, the line and the column are the text's, its bit, its length and where it ends
-pub all-crossed : {r out : List ℕ} {ls : List Lent} {r' out' : List ℕ} → CrossesAll r out ls r' out' → length out < 2 ^ 64 → Appended (unpacked r) out (tokensOf ls) (unpacked r') out'
-all-crossed x fits = appended (all_append x fits)
+pub all_crossed : {r out : List ℕ} {ls : List Lent} {r' out' : List ℕ} → CrossesAll r out ls r' out' → length out < 2 ^ 64 → Appended (unpacked r) out (tokens_of ls) (unpacked r') out'
+all_crossed x fits = appended (all_append x fits)
 
 -- and the record's bytes stay well formed
-pub stays-well : {r out : List ℕ} {ls : List Lent} {r' out' : List ℕ} → CrossesAll r out ls r' out' → length out < 2 ^ 64 → wellFormed r ≡ true → wellFormed r' ≡ true
-stays-well none fits w = w
-stays-well (one x low xs) fits w =
+pub stays_well : {r out : List ℕ} {ls : List Lent} {r' out' : List ℕ} → CrossesAll r out ls r' out' → length out < 2 ^ 64 → well_formed r ≡ true → well_formed r' ≡ true
+stays_well none fits w = w
+stays_well (one x low xs) fits w =
     let c = crossed x low fits in
-    stays-well xs (omega (arith, output-length (succeeds c.appends))) c.stays
+    stays_well xs (omega (arith, output_length (succeeds c.appends))) c.stays
 
 -- ---- and a list of appends is a list of calls: where no refusal fits and there is room, all calls succeed
-calls : {rec : Stream} {out : List ℕ} {ls : List Lent} {rec' : Stream} {out' : List ℕ} → AppendsAll rec out ls rec' out' → (r : List ℕ) → wellFormed r ≡ true → rec ≡ unpacked r
+calls : {rec : Stream} {out : List ℕ} {ls : List Lent} {rec' : Stream} {out' : List ℕ} → AppendsAll rec out ls rec' out' → (r : List ℕ) → well_formed r ≡ true → rec ≡ unpacked r
     → length out < 2 ^ 64 → (r' : List ℕ) × CrossesAll r out ls r' out'
 unfolding code
 calls no-append r w e fits = (r, none)
 calls {rec} {out} (one-append {mid = mid} {o = o} {l = l} {n = n} x xs) r w e fits =
-    let rest = calls xs (packed mid) (packed-well mid) (sym (read_back mid (omega (arith, (succeeds x).fits)) (held_on (succeeds x)))) (omega (arith, output-length (succeeds x))) in
+    let rest = calls xs (packed mid) (packed_well mid) (sym (read_back mid (omega (arith, (succeeds x).fits)) (held_on (succeeds x)))) (omega (arith, output_length (succeeds x))) in
     let c : Crosses r out l.0 l.1 (code (Added n)) (packed mid) o = well r out l.0 l.1 true rec mid (Added n) (code (Added n)) (packed mid) o (sym w) refl e x refl refl in
-    (rest.0, one c (omega (arith, place-small rec out l.0 l.1 (Added n) mid o x)) rest.1)
+    (rest.0, one c (omega (arith, place_small rec out l.0 l.1 (Added n) mid o x)) rest.1)
 
-pub all_cross : (r out : List ℕ) {ls : List Lent} → wellFormed r ≡ true → Held (unpacked r) → AllFine ls → (unpacked r).count + length (textFrom (unpacked r) ls) ≤ length out → length out < 2 ^ 64
+pub all_cross : (r out : List ℕ) {ls : List Lent} → well_formed r ≡ true → Held (unpacked r) → AllFine ls → (unpacked r).count + length (text_from (unpacked r) ls) ≤ length out → length out < 2 ^ 64
     → (r' : List ℕ) × (out' : List ℕ) × CrossesAll r out ls r' out'
 all_cross r out w h f room fits =
-    let a = all-succeed (unpacked r) out h f room in
+    let a = all_succeed (unpacked r) out h f room in
     let c = calls a.2 r w refl fits in
     (c.0, a.1, c.1)

@@ -1,22 +1,22 @@
 -- 01, sections 3 and 9, and 02, ix: append as the engine calls it, with the record as 25 bytes and the answer as one number.
 use Rattle.std.specs.Prelude.{ℕ, ◌≡◌, List, ◌∷◌, ◌++◌, Bool, true, false, ◌&&◌, leb, eqb, length, get_or, take, drop}
-use Rattle.laws.specs.Little.{little, fromLittle}
+use Rattle.laws.specs.Little.{little, from_little}
 use Rattle.append.specs.declared.Stream.{Stream}
 use Rattle.append.specs.declared.Answer.{Answer}
 use Rattle.append.specs.declared.Answer.TheVariants.{Added, Malformed, Unknown, TooLong, Broken, NoRoom}
 use Rattle.append.specs.Append.{Appends, code}
 
 -- "a lent record crosses as [bytes] (0 or 1, then the count, little-endian; all else is malformed)"; 02: line and column "as bytes, 8 each, after the count"
-unfoldable pub wellFormed : List ℕ → Bool
-wellFormed r = eqb (length r) 25 && leb (get_or r 0 0) 1
+unfoldable pub well_formed : List ℕ → Bool
+well_formed r = eqb (length r) 25 && leb (get_or r 0 0) 1
 
 unfoldable pub unpacked : List ℕ → Stream
 unpacked r =
     record {
       spaced = eqb (get_or r 0 0) 1;
-      count = fromLittle (take 8 (drop 1 r));
-      line = fromLittle (take 8 (drop 9 r));
-      column = fromLittle (take 8 (drop 17 r));
+      count = from_little (take 8 (drop 1 r));
+      line = from_little (take 8 (drop 9 r));
+      column = from_little (take 8 (drop 17 r));
     }
 
 abbrev pub bit_of : Bool → ℕ
@@ -48,6 +48,6 @@ Done false rec out token value a rec' out' = (a ≡ Malformed) × ((rec' ≡ rec
 pub record Crosses (r out : List ℕ) (token : ℕ) (value : List ℕ) (answer : ℕ) (r' out' : List ℕ) : Type 0 where
   pub verdict : Answer
   pub left : Stream
-  pub done : Done (wellFormed r) (unpacked r) out token value verdict left out'
+  pub done : Done (well_formed r) (unpacked r) out token value verdict left out'
   pub answers : answer ≡ code verdict
   pub leaves : r' ≡ repacked verdict left r

@@ -3,11 +3,11 @@
 // A token is laid at once where it may be. The way with all refusals is a function that two others call: so the compiler
 // leaves it by itself, and the quick ways need few registers.
 ghost use Rattle.std.specs.Prelude.{◌≡◌, ◌+◌, ◌-◌, ◌*◌, ◌%◌, ◌≤◌, ◌<◌, ◌^◌, ◌++◌, length, take, drop, true, ◌&&◌};
-ghost use Rattle.laws.specs.Little.{little, fromLittle};
+ghost use Rattle.laws.specs.Little.{little, from_little};
 ghost use Rattle.stream.specs.Stream.{leaves};
-ghost use Rattle.quick.specs.Quick.{manyMay, Comes, onLine};
-ghost use Rattle.append.specs.Append.{place as place', code as code', news, tokenOf};
-ghost use Rattle.wire.specs.Wire.{wellFormed, held as held', unpacked, bit_of, packed, repacked, Crosses};
+ghost use Rattle.quick.specs.Quick.{many_may, Comes, on_line};
+ghost use Rattle.append.specs.Append.{place as place', code as code', news, token_of};
+ghost use Rattle.wire.specs.Wire.{well_formed as well_formed', held as held', unpacked, bit_of, packed, repacked, Crosses};
 
 use append::{Answer, Stream};
 use quick::Quick;
@@ -47,7 +47,7 @@ fn code(a: Answer) -> u64
 
 // Whether a record's bytes are well formed.
 fn well_formed(rec: &[u8]) -> bool
-    ensures { result ≡ wellFormed rec.now }
+    ensures { result ≡ well_formed' rec.now }
 {
     if rec.len() != RECORD {
         return false;
@@ -65,7 +65,7 @@ fn held(s: Stream) -> bool
 // The number of the first four bytes, the lowest first.
 fn half(s: &[u8]) -> u64
     requires { 4 ≤ length s.now }
-    ensures { (result ≡ fromLittle (take 4 s.now)) × (result < 2 ^ 32) }
+    ensures { (result ≡ from_little (take 4 s.now)) × (result < 2 ^ 32) }
 {
     s[0] as u64 + 256 * (s[1] as u64 + 256 * (s[2] as u64 + 256 * s[3] as u64))
 }
@@ -73,7 +73,7 @@ fn half(s: &[u8]) -> u64
 // The number of the first eight bytes. It is a function of its own so that the compiler reads them at once.
 fn whole(s: &[u8]) -> u64
     requires { 8 ≤ length s.now }
-    ensures { result ≡ fromLittle (take 8 s.now) }
+    ensures { result ≡ from_little (take 8 s.now) }
 {
     let low = half(s);
     let high = half(&s[HALF..]);
@@ -83,14 +83,14 @@ fn whole(s: &[u8]) -> u64
 // The number of the eight bytes from a place on.
 fn number_at(rec: &[u8], at: usize) -> u64
     requires { at + 8 ≤ length rec.now }
-    ensures { result ≡ fromLittle (take 8 (drop at rec.now)) }
+    ensures { result ≡ from_little (take 8 (drop at rec.now)) }
 {
     whole(&rec[at..])
 }
 
 // The record of its bytes.
 fn unpack(rec: &[u8]) -> Stream
-    requires { wellFormed rec.now ≡ true }
+    requires { well_formed' rec.now ≡ true }
     ensures { result ≡ unpacked rec.now }
 {
     Stream {
@@ -176,8 +176,8 @@ fn repack(rec: &mut [u8], a: Answer, s: Stream)
 // A token was laid where the count was, with no newline: the bit and the count are written, the column goes on, and the line's bytes stay. The answer is how
 // many bytes were added. The column is read again here, so that the compiler adds to it where it lies.
 fn laid(rec: &mut [u8], count: usize, s: Sink) -> u64
-    requires { (wellFormed rec.old ≡ true) × ((count ≡ (unpacked rec.old).count) × (((unpacked rec.old).column ≤ count) × (count ≤ s.at))) }
-    ensures { (result ≡ s.at - count) × (rec.new ≡ packed (onLine (unpacked rec.old) s)) }
+    requires { (well_formed' rec.old ≡ true) × ((count ≡ (unpacked rec.old).count) × (((unpacked rec.old).column ≤ count) × (count ≤ s.at))) }
+    ensures { (result ≡ s.at - count) × (rec.new ≡ packed (on_line (unpacked rec.old) s)) }
 {
     let added = (s.at - count) as u64;
     rec[0] = bit(s.spaced);
@@ -190,7 +190,7 @@ fn laid(rec: &mut [u8], count: usize, s: Sink) -> u64
 // One token over a record that is well formed, with all refusals asked for: a record of our own is lent, and what is left of it packed. The value is taken
 // up first, so that where it lies comes in a register.
 fn asked(rec: &mut [u8], out: &mut [u8], token: u16, value: &[u8]) -> u64
-    requires { wellFormed rec.old ≡ true }
+    requires { well_formed' rec.old ≡ true }
     ensures { Crosses rec.old out.old token value.now result rec.new out.new }
 {
     let v = &value[0..];
@@ -203,7 +203,7 @@ fn asked(rec: &mut [u8], out: &mut [u8], token: u16, value: &[u8]) -> u64
 
 // A long value is laid at once where it may be.
 fn long_tried(rec: Stream, out: &mut [u8], token: u16, value: &[u8]) -> Quick
-    ensures { Comes (held' rec && manyMay rec (length out.old) token value.now) rec out.old (news rec token value.now) (leaves rec.spaced (tokenOf token value.now)) result out.new }
+    ensures { Comes (held' rec && many_may rec (length out.old) token value.now) rec out.old (news rec token value.now) (leaves rec.spaced (token_of token value.now)) result out.new }
 {
     if !held(rec) {
         return Quick::Not;
@@ -213,7 +213,7 @@ fn long_tried(rec: Stream, out: &mut [u8], token: u16, value: &[u8]) -> Quick
 
 // A token that is not laid at once yet: a long value is where it may be, and for all else all refusals are asked for.
 fn checked(rec: &mut [u8], out: &mut [u8], token: u16, value: &[u8]) -> u64
-    requires { wellFormed rec.old ≡ true }
+    requires { well_formed' rec.old ≡ true }
     ensures { Crosses rec.old out.old token value.now result rec.new out.new }
 {
     let v = &value[0..];
@@ -227,7 +227,7 @@ fn checked(rec: &mut [u8], out: &mut [u8], token: u16, value: &[u8]) -> u64
 
 // A token with no value bytes: laid at once where it may be.
 fn bare(rec: &mut [u8], out: &mut [u8], token: u16, value: &[u8]) -> u64
-    requires { (wellFormed rec.old ≡ true) × ((held' (unpacked rec.old) ≡ true) × (length value.now ≡ 0)) }
+    requires { (well_formed' rec.old ≡ true) × ((held' (unpacked rec.old) ≡ true) × (length value.now ≡ 0)) }
     ensures { Crosses rec.old out.old token value.now result rec.new out.new }
 {
     let before = unpack(rec);
@@ -240,7 +240,7 @@ fn bare(rec: &mut [u8], out: &mut [u8], token: u16, value: &[u8]) -> u64
 
 // A token with a value: one of few bytes is laid at once where it may be.
 fn valued(rec: &mut [u8], out: &mut [u8], token: u16, value: &[u8]) -> u64
-    requires { (wellFormed rec.old ≡ true) × (held' (unpacked rec.old) ≡ true) }
+    requires { (well_formed' rec.old ≡ true) × (held' (unpacked rec.old) ≡ true) }
     ensures { Crosses rec.old out.old token value.now result rec.new out.new }
 {
     let before = unpack(rec);

@@ -8,17 +8,17 @@ use Rattle.laws.specs.Among.{among}
 use Rattle.laws.specs.Apart.{Apart, absent}
 use Rattle.laws.specs.Below.{below, at}
 use Rattle.laws.specs.Bytes.{same, equal}
-use Rattle.laws.specs.Little.{little, fromLittle}
+use Rattle.laws.specs.Little.{little, from_little}
 use Rattle.spelling.specs.Rows.{rows}
 use Rattle.spelling.specs.Spelling.{spelling, row}
-use Rattle.spelling.specs.Table.{rowsHeld}
+use Rattle.spelling.specs.Table.{rows_held}
 use Rattle.spelling.specs.Laws.{count, everywhere, silent}
 
 unfoldable pub first : ℕ → ℕ
-first k = fromLittle (take 8 (spelling k))
+first k = from_little (take 8 (spelling k))
 
 unfoldable pub rest : ℕ → ℕ
-rest k = fromLittle (drop 8 (spelling k))
+rest k = from_little (drop 8 (spelling k))
 
 -- how many bytes a number takes: up to the highest that is not zero
 unfoldable pub span : ℕ → ℕ
@@ -33,39 +33,39 @@ abbrev pub bytes_of : ℕ → ℕ → List ℕ
 bytes_of a b = little 8 a ++ little 8 b
 
 -- past the rows there is nothing to hold
-pub first_past : (k : ℕ) → rowsHeld ≤ k → first k ≡ 0
+pub first_past : (k : ℕ) → rows_held ≤ k → first k ≡ 0
 unfolding first
 first_past k h = rw (silent k h)
 
 -- where there are no more than eight bytes there is no rest
-short-rest : (k : ℕ) → length (spelling k) ≤ 8 → rest k ≡ 0
+short_rest : (k : ℕ) → length (spelling k) ≤ 8 → rest k ≡ 0
 unfolding rest
-short-rest k h = rw (drop_of_length-le (spelling k) {i = 8} h)
+short_rest k h = rw (drop_of_length-le (spelling k) {i = 8} h)
 
-rest-past : (k : ℕ) → rowsHeld ≤ k → rest k ≡ 0
-rest-past k h = short-rest k (rw (silent k h) (omega arith))
+rest_past : (k : ℕ) → rows_held ≤ k → rest k ≡ 0
+rest_past k h = short_rest k (rw (silent k h) (omega arith))
 
 -- the rest is tested at every number that is no key of the arms
-pub no-rest : (ks : List ℕ) (k : ℕ) → below (λ n. eqb (rest n) 0 || among n ks) count ≡ true → Apart ks k → rest k ≡ 0
-no-rest ks k t p =
+pub no_rest : (ks : List ℕ) (k : ℕ) → below (λ n. eqb (rest n) 0 || among n ks) count ≡ true → Apart ks k → rest k ≡ 0
+no_rest ks k t p =
     everywhere (λ n. rest n ≡ 0) k
-    (λ l. eqb-true (rest k) 0 (left-of (eqb (rest k) 0) (among k ks) (at (λ n. eqb (rest n) 0 || among n ks) count t k l) (absent ks k p)))
-    (λ l. rest-past k (omega arith))
+    (λ l. eqb-true (rest k) 0 (left_of (eqb (rest k) 0) (among k ks) (at (λ n. eqb (rest n) 0 || among n ks) count t k l) (absent ks k p)))
+    (λ l. rest_past k (omega arith))
   where
-    left-of : (a b : Bool) → (a || b) ≡ true → b ≡ false → a ≡ true
-    left-of true b e f = refl
-    left-of false b e f = absurd (false≢true (sym f ∙ e))
+    left_of : (a b : Bool) → (a || b) ≡ true → b ≡ false → a ≡ true
+    left_of true b e f = refl
+    left_of false b e f = absurd (false≢true (sym f ∙ e))
 
 -- a number that does not take all eight bytes has no rest behind it
-short-below : below (λ k. leb 8 (span (first k)) || eqb (rest k) 0) count ≡ true
+short_below : below (λ k. leb 8 (span (first k)) || eqb (rest k) 0) count ≡ true
 unfolding first rest span count_leading_zeros spelling row rows
-short-below = refl
+short_below = refl
 
 short : (k : ℕ) → span (first k) < 8 → rest k ≡ 0
 short k h =
     everywhere (λ n. rest n ≡ 0) k
-    (λ l. eqb-true (rest k) 0 (right_of (leb 8 (span (first k))) (eqb (rest k) 0) (at (λ n. leb 8 (span (first n)) || eqb (rest n) 0) count short-below k l) (lt-leb 8 (span (first k)) h)))
-    (λ l. rest-past k (omega arith))
+    (λ l. eqb-true (rest k) 0 (right_of (leb 8 (span (first k))) (eqb (rest k) 0) (at (λ n. leb 8 (span (first n)) || eqb (rest n) 0) count short_below k l) (lt-leb 8 (span (first k)) h)))
+    (λ l. rest_past k (omega arith))
   where
     right_of : (a b : Bool) → (a || b) ≡ true → a ≡ false → b ≡ true
     right_of true b e f = absurd (false≢true (sym f))
@@ -76,34 +76,34 @@ none : span 0 ≡ 0
 unfolding span count_leading_zeros
 none = refl
 
-spans-below : below (λ k. eqb (span (first k) + span (rest k)) (length (spelling k))) count ≡ true
+spans_below : below (λ k. eqb (span (first k) + span (rest k)) (length (spelling k))) count ≡ true
 unfolding first rest span count_leading_zeros spelling row rows
-spans-below = refl
+spans_below = refl
 
 spans : (k : ℕ) → span (first k) + span (rest k) ≡ length (spelling k)
 spans k =
     everywhere (λ n. span (first n) + span (rest n) ≡ length (spelling n)) k
-    (λ l. eqb-true (span (first k) + span (rest k)) (length (spelling k)) (at (λ n. eqb (span (first n) + span (rest n)) (length (spelling n))) count spans-below k l))
-    (λ l. rw (first_past k (omega arith), rest-past k (omega arith), silent k (omega arith), none))
+    (λ l. eqb-true (span (first k) + span (rest k)) (length (spelling k)) (at (λ n. eqb (span (first n) + span (rest n)) (length (spelling n))) count spans_below k l))
+    (λ l. rw (first_past k (omega arith), rest_past k (omega arith), silent k (omega arith), none))
 
-short-span : (k : ℕ) → span (first k) < 8 → span (first k) ≡ length (spelling k)
-short-span k h = let e : span (first k) + 0 ≡ length (spelling k) = rw (short k h, none) at (spans k) in omega arith
+short_span : (k : ℕ) → span (first k) < 8 → span (first k) ≡ length (spelling k)
+short_span k h = let e : span (first k) + 0 ≡ length (spelling k) = rw (short k h, none) at (spans k) in omega arith
 
-pub span-le : (a : ℕ) {n : ℕ} → n ≡ span a → n ≤ 8
+pub span_le : (a : ℕ) {n : ℕ} → n ≡ span a → n ≤ 8
 unfolding span
-span-le a e = rw e (omega arith)
+span_le a e = rw e (omega arith)
 
 -- the two numbers hold the spelling and the zeros
-holds-below : below (λ k. same (bytes_of (first k) (rest k)) (padded k)) count ≡ true
+holds_below : below (λ k. same (bytes_of (first k) (rest k)) (padded k)) count ≡ true
 unfolding first rest padded spelling row rows
-holds-below = refl
+holds_below = refl
 
 held : (k : ℕ) → bytes_of (first k) (rest k) ≡ padded k
 unfolding padded
 held k =
     everywhere (λ n. bytes_of (first n) (rest n) ≡ padded n) k
-    (λ l. equal (bytes_of (first k) (rest k)) (padded k) (at (λ n. same (bytes_of (first n) (rest n)) (padded n)) count holds-below k l))
-    (λ l. rw (first_past k (omega arith), rest-past k (omega arith), silent k (omega arith)))
+    (λ l. equal (bytes_of (first k) (rest k)) (padded k) (at (λ n. same (bytes_of (first n) (rest n)) (padded n)) count holds_below k l))
+    (λ l. rw (first_past k (omega arith), rest_past k (omega arith), silent k (omega arith)))
 
 -- so do the bytes that are made of them, with the rest or, where the first is short, without
 module _ (k : ℕ) {a : ℕ} (f : a ≡ first k) where
@@ -113,11 +113,11 @@ module _ (k : ℕ) {a : ℕ} (f : a ≡ first k) where
   pub takes : {b n m : ℕ} → b ≡ rest k → n ≡ span a → m ≡ span b → n + m ≡ length (spelling k)
   takes g p q = rw (p, q, f, g) (spans k)
 
-  pub short-holds : {n : ℕ} {bs : List ℕ} → n ≡ span a → n < 8 → bs ≡ bytes_of a 0 → bs ≡ padded k
-  short-holds p h e = holds (sym (short k (rw (← f, ← p) h))) e
+  pub short_holds : {n : ℕ} {bs : List ℕ} → n ≡ span a → n < 8 → bs ≡ bytes_of a 0 → bs ≡ padded k
+  short_holds p h e = holds (sym (short k (rw (← f, ← p) h))) e
 
-  pub short-takes : {n : ℕ} → n ≡ span a → n < 8 → n ≡ length (spelling k)
-  short-takes {n} p h = let e : n ≡ span (first k) = rw f at p in e ∙ short-span k (rw e at h)
+  pub short_takes : {n : ℕ} → n ≡ span a → n < 8 → n ≡ length (spelling k)
+  short_takes {n} p h = let e : n ≡ span (first k) = rw f at p in e ∙ short_span k (rw e at h)
 
 -- so many of them as the spelling is long are the spelling
 pub begins : (k n : ℕ) (bs : List ℕ) → bs ≡ padded k → n ≡ length (spelling k) → take n bs ≡ spelling k

@@ -89,9 +89,9 @@ module _ {M : Type 1} {𝓤 : Ura M} (𝓛 : Logic 𝓤) (d : Stream) (l : ℕ) 
       owned ! T.the_row (Is T.the_row) ((LL.makes T.the_type T'.the_plain) 𝓛) d _ was $ move ! (1 ∷ 0 ∷ []) $ fjoin ! $
       fpack ! (List Val) (λ us. fsep (cell_at full_share (T.the_row).mir us l 0) ((T.the_row).own_val d us)) (mach d ∷ []) $ done !
 
-  comes-out : ent 𝓤 (sem 𝓛 (part_at T.the_row full_share d l 0)) (guard 𝓤 (Is T.the_row d (mach d ∷ [])) (sem 𝓛 (fat full_share T'.mir l 0 (mach d))))
+  comes_out : ent 𝓤 (sem 𝓛 (part_at T.the_row full_share d l 0)) (guard 𝓤 (Is T.the_row d (mach d ∷ [])) (sem 𝓛 (fat full_share T'.mir l 0 (mach d))))
   unfolding part_of
-  comes-out =
+  comes_out =
       qed 𝓛 (‵ (part_at T.the_row full_share d l 0) ∷ []) ∵ fpick ! (λ vs. fsplit ! $ spelt ! T.the_row (Is T.the_row) (shows 𝓛 T.the_row) (LL.vals T.the_type T'.the_laws) (LL.tells T.the_type T'.the_laws) full_share d vs l 0 $
       use1 𝓛 (‵ (fat full_share T'.mir l 0 (mach d))) (𝓛.laws.raw_at full_share T'.mir l 0 (mach d)) $
       move ! (1 ∷ []) $ peeks ! T.the_row (Is T.the_row) (shows 𝓛 T.the_row) d _ (λ was. drop ! $ check ! was $ done !))
@@ -201,7 +201,7 @@ module _ {M : Type 1} {𝓤 : Ura M} (𝓛 : Logic 𝓤) (at_mem : Memory → SP
         rewrite ! 15 (λ (u : Val). ‵ (fat full_share E'.mir l₆ 0 u)) (ap only (EL.tells E.the_type E'.the_laws e (w ∷ []) is)) refl $ drop ! $
         -- the lifetime is ended, and the record taken back at its last value
         split ! $ lft_end ! tt $ move ! (0 ∷ 6 ∷ 4 ∷ []) $ use3 𝓛 (later (‵ (part_at T.the_row full_share zs.0 l₅ 0))) (ref_back 𝓛 T.the_row (α ∷ []) γ zs.0 l₅ 0) $ await ! tt $
-        use1 𝓛 (given (Is T.the_row zs.0 (mach zs.0 ∷ [])) (‵ (fat full_share T'.mir l₅ 0 (mach zs.0)))) (comes-out 𝓛 zs.0 l₅) $ learn ! (λ left.
+        use1 𝓛 (given (Is T.the_row zs.0 (mach zs.0 ∷ [])) (‵ (fat full_share T'.mir l₅ 0 (mach zs.0)))) (comes_out 𝓛 zs.0 l₅) $ learn ! (λ left.
         -- [_5; the other tokens; the last list; …; what value owns; _10; …; _6; …; (of _5); _4; …; _0; …]
         assigns ! (of_opd ! (load ! (from ! (stop !)) (look ! 0 refl))) (from ! (stop !)) (init ! 5 refl ((LL.lawful T.the_type T'.the_laws 𝓛).typed zs.0 _ left).0) $
         assigns ! (agg ! (and_then ! (load ! (from ! (stop !)) (look ! 13 refl)) (and_then ! (load ! (from ! (stop !)) (look ! 5 refl)) (no_more !)))) (from ! (stop !)) (init ! 24 refl ((LL.lawful N.the_type N'.the_laws 𝓛).typed (next e zs.0) _ (made e zs.0 (at-said e w is) left)).0) $

@@ -3,7 +3,7 @@ use native.Mathlib.Omega.{arith}
 use mathlib.Core.Path.{sym, ◌∙◌}
 use borrow.Author.Rules.{rules}
 use borrow.Author.Tests.{eq-eqb, ne_eqb}
-use Rattle.position.specs.Laws.{lines-length}
+use Rattle.position.specs.Laws.{lines_length}
 use Rattle.append.specs.Steps.{moved_to}
 use Rattle.append.proofs.moved.Statement.{statement}
 use Rattle.append.proofs.moved.Tie as tie
@@ -11,7 +11,7 @@ use Rattle.append.proofs.moved.Tie as tie
 add-line : tie.Need-overflow-add-line
 add-line c =
     let start = c.before.before.before.before in
-    omega (arith, start.requires, c.before.before.newlines.ensures.0, lines-length start.args.value.now)
+    omega (arith, start.requires, c.before.before.newlines.ensures.0, lines_length start.args.value.now)
 
 returns : tie.Need-returns
 unfolding moved_to

@@ -3,13 +3,13 @@ use Prim.Native.Nat.{◌<◌, ◌^◌}
 use native.Mathlib.Omega.{arith}
 use lib.ListN.{length}
 use Rattle.append.specs.Append.{news}
-use Rattle.append.specs.Laws.{measured, ample-room, full, not_full}
+use Rattle.append.specs.Laws.{measured, ample_room, full, not_full}
 use borrow.Author.Rules.{rules}
 use Rattle.append.proofs.no_room.Statement.{statement}
 use Rattle.append.proofs.no_room.Tie as tie
 
 returns : tie.Need-returns
-returns c = ample-room _ _ _ _ (c.before.ample.ensures c.if1.true)
+returns c = ample_room _ _ _ _ (c.before.ample.ensures c.if1.true)
 
 returns-2 : tie.Need-returns-2
 unfolding news

@@ -3,7 +3,7 @@ use Prim.Native.Nat.{◌≤◌}
 use native.Mathlib.Omega.{arith}
 use lib.ListN.{length}
 use Rattle.stream.specs.Sink.{most}
-use Rattle.append.specs.Laws.{emits, put-counts, put-moves, put_all}
+use Rattle.append.specs.Laws.{emits, put_counts, put_moves, put_all}
 use borrow.Author.Rules.{rules}
 use Rattle.append.proofs.put.Statement.{statement}
 use Rattle.append.proofs.put.Tie as tie
@@ -15,7 +15,7 @@ sub-added c =
     let at-number-of = at-present.before in
     let start = at-number-of.before.before.before.before.before in
     let held : length start.args.out.now ≤ most = search rules in
-    let counts = put-counts _ _ _ _ _ _ start.requires held
+    let counts = put_counts _ _ _ _ _ _ start.requires held
     (emits _ _ _ _ _ _ _ _ _ at-number-of.number_of_lem.ensures at-present.present.ensures at-append.append.ensures) in
     omega (arith, counts)
 
@@ -26,7 +26,7 @@ moved-requires c κs =
     let at-number-of = at-present.before in
     let start = at-number-of.before.before.before.before.before in
     let held : length start.args.out.now ≤ most = search rules in
-    put-moves _ _ _ _ _ _ start.requires held
+    put_moves _ _ _ _ _ _ start.requires held
     (emits _ _ _ _ _ _ _ _ _ at-number-of.number_of_lem.ensures at-present.present.ensures at-append.append.ensures)
 
 returns : tie.Need-returns

@@ -3,14 +3,14 @@ use Prim.Native.Nat.{◌≤◌, ◌-◌}
 use mathlib.Core.Path.{◌≡◌}
 use native.Mathlib.Omega.{arith}
 use lib.ListN.{length, drop}
-use Rattle.blank.specs.Blank.{allBlank}
+use Rattle.blank.specs.Blank.{all_blank}
 use Rattle.blank.specs.Laws.{first_past, stops, goes_on, ends}
 use borrow.Author.Rules.{rules}
 use Rattle.blank.proofs.all_blank.Statement.{statement}
 use Rattle.blank.proofs.all_blank.Tie as tie
 
 abbrev invariant-loop : tie.invariant-loop
-invariant-loop v i₀ i = (i ≤ length v) × (allBlank (drop i v) ≡ allBlank v)
+invariant-loop v i₀ i = (i ≤ length v) × (all_blank (drop i v) ≡ all_blank v)
 
 abbrev decreases-loop : tie.decreases-loop
 decreases-loop v i₀ i = length v - i

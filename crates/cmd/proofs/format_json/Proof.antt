@@ -1,6 +1,6 @@
 -- `format_json`: each call is a step of its shape.
 use borrow.Author.Rules.{rules}
-use Rattle.pen.specs.Laws.{◌▹◌, a-said}
+use Rattle.pen.specs.Laws.{◌▹◌, a_said}
 use mathlib.Core.Path.{refl}
 use Rattle.cmd.proofs.format_json.Statement.{statement}
 use Rattle.cmd.proofs.format_json.Tie as tie
@@ -10,7 +10,7 @@ returns c e d r =
     let at-said2 = c.before.before in
     let at-word = at-said2.before.before.before.before.before in
     let at-said = at-word.before.before.before.before in
-    a-said _ refl at-said.said.ensures ▹ at-word.word.ensures e d r ▹ a-said _ refl at-said2.said2.ensures
+    a_said _ refl at-said.said.ensures ▹ at-word.word.ensures e d r ▹ a_said _ refl at-said2.said2.ensures
 
 pub format-json-spec : {M : Type 1} → statement M
 format-json-spec =

@@ -2,7 +2,7 @@
 use borrow.Author.Rules.{rules}
 use mathlib.Core.Path.{refl}
 use Rattle.record.specs.Laws as records
-use Rattle.cmd.specs.Laws.{root-list, root-cmd, root-else}
+use Rattle.cmd.specs.Laws.{root_list, root_cmd, root_else}
 use Rattle.cmd.proofs.root.Statement.{statement}
 use Rattle.cmd.proofs.root.Tie as tie
 
@@ -13,7 +13,7 @@ returns c =
     let at-pass = at-if1.before.before in
     let at_read = at-pass.before in
     let at-args = at_read.before.before.before.before.before in
-    root-list at-args.args.text.now at-args.args.edition at_read.read.ensures at-pass.pass.ensures at-if1.if1.true at-root-elements.root-elements.ensures
+    root_list at-args.args.text.now at-args.args.edition at_read.read.ensures at-pass.pass.ensures at-if1.if1.true at-root-elements.root-elements.ensures
 
 returns-2 : tie.Need-returns-2
 returns-2 c =
@@ -22,7 +22,7 @@ returns-2 c =
     let at-pass = at-if2.before.before.before.before in
     let at_read = at-pass.before in
     let at-args = at_read.before.before.before.before.before in
-    root-cmd at-args.args.text.now at-args.args.edition at_read.read.ensures at-pass.pass.ensures at-if2.if2.true (at-cmd.cmd.ensures _ refl)
+    root_cmd at-args.args.text.now at-args.args.edition at_read.read.ensures at-pass.pass.ensures at-if2.if2.true (at-cmd.cmd.ensures _ refl)
 
 returns-3 : tie.Need-returns-3
 returns-3 c =
@@ -31,7 +31,7 @@ returns-3 c =
     let at-if1 = at-if2.before.before in
     let at_read = at-if1.before.before.before in
     let at-args = at_read.before.before.before.before.before in
-    root-else at-args.args.text.now at-args.args.edition at_read.read.ensures at-if1.if1.false at-if2.if2.false (at-root-element.root-element.ensures records.nothing)
+    root_else at-args.args.text.now at-args.args.edition at_read.read.ensures at-if1.if1.false at-if2.if2.false (at-root-element.root-element.ensures records.nothing)
 
 pub root-spec : {M : Type 1} → statement M
 root-spec =

@@ -5,19 +5,19 @@ use mathlib.Core.List.{[]}
 use Rattle.mode.specs.declared.Edition.TheVariants.{Crate}
 use Rattle.record.specs.Laws as records
 use Rattle.grammar.specs.Shape.{one}
-use Rattle.grammar.specs.Grammar.{rootKinds}
+use Rattle.grammar.specs.Grammar.{root_kinds}
 use Rattle.tokens.specs.Tokens.{rows, placed, comma, means, node}
-use Rattle.tokens.specs.Tokens.{inEdition}
+use Rattle.tokens.specs.Tokens.{in_edition}
 use Rattle.pen.specs.Pen.{put}
-use Rattle.pen.specs.Laws.{puts-length}
+use Rattle.pen.specs.Laws.{puts_length}
 use Rattle.pen.specs.Rows.{opt, row_first, row_done}
 use Rattle.cmd.proofs.root_elements.Statement.{statement}
 use Rattle.cmd.proofs.root_elements.Tie as tie
 
 abbrev invariant-loop : tie.invariant-loop
 invariant-loop out₀ pool tree text left n edition q₀ rest₀ lead₀ out q rest lead =
-    put pool (rows (placed (inEdition tree text edition) (node (inEdition tree text edition) left) (one rootKinds)) (opt lead comma) comma rest q.next) (q, out)
-    ≡ put pool (rows (placed (inEdition tree text edition) (node (inEdition tree text edition) left) (one rootKinds)) [] comma n q₀.next) (q₀, out₀)
+    put pool (rows (placed (in_edition tree text edition) (node (in_edition tree text edition) left) (one root_kinds)) (opt lead comma) comma rest q.next) (q, out)
+    ≡ put pool (rows (placed (in_edition tree text edition) (node (in_edition tree text edition) left) (one root_kinds)) [] comma n q₀.next) (q₀, out₀)
 
 abbrev decreases-loop : tie.decreases-loop
 decreases-loop out₀ pool tree text left n edition q₀ rest₀ lead₀ out q rest lead = rest
@@ -41,4 +41,4 @@ root-elements-spec =
     tie.close
     (tie.spec
     invariant-loop decreases-loop (λ c. search rules) (λ c κs. search rules) (λ c κs. search rules) (λ c. search rules)
-    (λ c. search rules) loop-again (λ c. puts-length (returns c)) returns)
+    (λ c. search rules) loop-again (λ c. puts_length (returns c)) returns)

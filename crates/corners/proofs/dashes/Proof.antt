@@ -5,7 +5,7 @@ use mathlib.Core.Path.{◌≡◌, refl, sym, ◌∙◌}
 use Prim.Native.Nat.{◌≤◌, ◌-◌}
 use lib.ListN.{drop}
 use Rattle.tokens.specs.Corners.{dashes}
-use Rattle.corners.specs.Laws.{dashes-found, dashes-next, dashes-end}
+use Rattle.corners.specs.Laws.{dashes_found, dashes_next, dashes_end}
 use Rattle.corners.proofs.dashes.Statement.{statement}
 use Rattle.corners.proofs.dashes.Tie as tie
 
@@ -21,17 +21,17 @@ loop-holds c = (omega arith, refl)
 returns : tie.Need-returns invariant-loop decreases-loop
 returns c =
     let at-loop = c.before.before.before.before in
-    sym (dashes-found _ _ at-loop.loop.invariant.0 (search rules) c.if1.true) ∙ at-loop.loop.invariant.1
+    sym (dashes_found _ _ at-loop.loop.invariant.0 (search rules) c.if1.true) ∙ at-loop.loop.invariant.1
 
 loop-again : tie.Need-loop-preserved invariant-loop decreases-loop
 loop-again c =
     let at-loop = c.before.before.before.before in
-    (omega arith, dashes-next _ _ at-loop.loop.invariant.0 (search rules) c.if1.false ∙ at-loop.loop.invariant.1)
+    (omega arith, dashes_next _ _ at-loop.loop.invariant.0 (search rules) c.if1.false ∙ at-loop.loop.invariant.1)
 
 returns-2 : tie.Need-returns-2 invariant-loop decreases-loop
 returns-2 c =
     let at-loop = c.before in
-    sym (dashes-end _ _ at-loop.loop.invariant.0 (search rules)) ∙ at-loop.loop.invariant.1
+    sym (dashes_end _ _ at-loop.loop.invariant.0 (search rules)) ∙ at-loop.loop.invariant.1
 
 pub dashes-spec : {M : Type 1} → statement M
 dashes-spec =

@@ -6,7 +6,7 @@ use mir.ValLaws.{to_z-of_z}
 use Rattle.grammar.specs.Kind.{NUMBER}
 use Rattle.tokens.specs.Tokens.{means}
 use Rattle.parts.specs.Laws.{of_other}
-use Rattle.corners.specs.Laws.{a-number}
+use Rattle.corners.specs.Laws.{a_number}
 use Rattle.corners.proofs.number.Statement.{statement}
 use Rattle.corners.proofs.number.Tie as tie
 
@@ -24,7 +24,7 @@ returns-2 c x d r =
     let at-if1 = at-number.before in
     let at-pass = at-if1.before.before in
     let at_read = at-pass.before in
-    a-number x at_read.read.ensures at-pass.pass.ensures at-if1.if1.false (to_z-of_z w64 _ (search rules) ∙ at-number.number.ensures) at-spelled.spelled.ensures
+    a_number x at_read.read.ensures at-pass.pass.ensures at-if1.if1.false (to_z-of_z w64 _ (search rules) ∙ at-number.number.ensures) at-spelled.spelled.ensures
 
 pub number-spec : {M : Type 1} → statement M
 number-spec =

@@ -2,7 +2,7 @@
 use borrow.Author.Rules.{rules}
 use mathlib.Core.Path.{sym, ◌∙◌}
 use borrow.Author.Tests.{not-true, not-false}
-use Rattle.corners.specs.Laws.{options-plain, options-on}
+use Rattle.corners.specs.Laws.{options_plain, options_on}
 use Rattle.corners.proofs.options.Statement.{statement}
 use Rattle.corners.proofs.options.Tie as tie
 
@@ -12,7 +12,7 @@ returns c d r =
     let at-if1 = at_name.before.before in
     let at-sqlite = at-if1.before in
     let at-rowid = at-sqlite.before.before.before in
-    options-plain (sym at-sqlite.sqlite.ensures ∙ not-true _ at-if1.if1.true) (at-rowid.rowid.ensures d r) (at_name.name.ensures d r)
+    options_plain (sym at-sqlite.sqlite.ensures ∙ not-true _ at-if1.if1.true) (at-rowid.rowid.ensures d r) (at_name.name.ensures d r)
 
 returns-2 : tie.Need-returns-2
 returns-2 c d r =
@@ -24,7 +24,7 @@ returns-2 c d r =
     let at-sqlite = at-if1.before in
     let at-rowid = at-sqlite.before.before.before in
     let at_read = at-rowid.before.before in
-    options-on at_read.read.ensures (at-rowid.rowid.ensures d r) at-read2.read2.ensures (sym at-sqlite.sqlite.ensures ∙ not-false _ at-if1.if1.false) at-rowid-written.rowid-written.ensures at-comma-if.comma-if.ensures (at_name.name2.ensures d r)
+    options_on at_read.read.ensures (at-rowid.rowid.ensures d r) at-read2.read2.ensures (sym at-sqlite.sqlite.ensures ∙ not-false _ at-if1.if1.false) at-rowid-written.rowid-written.ensures at-comma-if.comma-if.ensures (at_name.name2.ensures d r)
 
 pub options-spec : {M : Type 1} → statement M
 options-spec =

@@ -4,8 +4,8 @@ use mathlib.Core.Path.{◌≡◌, ◌∙◌}
 use Rattle.tokens.specs.Corners.{pairs}
 use Rattle.tokens.specs.Tokens.{say}
 use Rattle.pen.specs.Pen.{put}
-use Rattle.pen.specs.Laws.{puts-length, word-said}
-use Rattle.corners.specs.Laws.{pairs_first, pairs-done}
+use Rattle.pen.specs.Laws.{puts_length, word_said}
+use Rattle.corners.specs.Laws.{pairs_first, pairs_done}
 use Rattle.corners.proofs.pairs.Statement.{statement}
 use Rattle.corners.proofs.pairs.Tie as tie
 
@@ -21,16 +21,16 @@ loop-again c =
     let at-word = at-word2.before.before.before.before in
     let at-loop-test = at-word.before.before in
     let at-loop = at-loop-test.before in
-    pairs_first _ at-loop-test.loop-test.true (word-said at-word.word.ensures) (word-said at-word2.word2.ensures) ∙ at-loop.loop.invariant
+    pairs_first _ at-loop-test.loop-test.true (word_said at-word.word.ensures) (word_said at-word2.word2.ensures) ∙ at-loop.loop.invariant
 
 returns : tie.Need-returns invariant-loop decreases-loop
 returns c =
     let at-loop = c.before in
-    pairs-done _ _ c.loop-test.false at-loop.loop.invariant
+    pairs_done _ _ c.loop-test.false at-loop.loop.invariant
 
 pub pairs-spec : {M : Type 1} → statement M
 pairs-spec =
     tie.close
     (tie.spec
     invariant-loop decreases-loop (λ c. search rules) (λ c κs. search rules) (λ c κs. search rules) (λ c. search rules)
-    (λ c. search rules) loop-again (λ c. puts-length (returns c).puts) returns)
+    (λ c. search rules) loop-again (λ c. puts_length (returns c).puts) returns)

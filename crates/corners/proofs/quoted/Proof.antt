@@ -1,7 +1,7 @@
 -- `corners::quoted` writes a TEXT between quotes, as its edition has it.
 use borrow.Author.Rules.{rules}
 use Rattle.pen.specs.Laws.{appended}
-use Rattle.corners.specs.Laws.{no-quote, a-quote}
+use Rattle.corners.specs.Laws.{no_quote_lem, a_quote}
 use Rattle.corners.proofs.quoted.Statement.{statement}
 use Rattle.corners.proofs.quoted.Tie as tie
 
@@ -10,7 +10,7 @@ returns c d r =
     let at-pass = c.before.before in
     let at_read = at-pass.before in
     let at-args = at_read.before.before.before.before.before in
-    no-quote at-args.args.text.now at_read.read.ensures at-pass.pass.ensures c.if1.true
+    no_quote_lem at-args.args.text.now at_read.read.ensures at-pass.pass.ensures c.if1.true
 
 returns-2 : tie.Need-returns-2
 returns-2 c d r =
@@ -21,7 +21,7 @@ returns-2 c d r =
     let at-pass = at-if1.before.before in
     let at_read = at-pass.before in
     let at-args = at_read.before.before.before.before.before in
-    a-quote at-args.args.text.now at_read.read.ensures at-pass.pass.ensures at-if1.if1.false at_part.part.ensures (appended at_of.of.ensures at-quoted.in-edition.ensures)
+    a_quote at-args.args.text.now at_read.read.ensures at-pass.pass.ensures at-if1.if1.false at_part.part.ensures (appended at_of.of.ensures at-quoted.in-edition.ensures)
 
 pub quoted-spec : {M : Type 1} → statement M
 quoted-spec =

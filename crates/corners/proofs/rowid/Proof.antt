@@ -3,8 +3,8 @@ use borrow.Author.Rules.{rules}
 use Rattle.grammar.specs.Kind.{TEXT}
 use Rattle.tokens.specs.Tokens.{means}
 use Rattle.parts.specs.Laws.{of_other}
-use Rattle.pen.specs.Laws.{word-said}
-use Rattle.corners.specs.Laws.{a-rowid, not-two, two-parts}
+use Rattle.pen.specs.Laws.{word_said}
+use Rattle.corners.specs.Laws.{a_rowid, not_two, two_parts}
 use Rattle.corners.proofs.rowid.Statement.{statement}
 use Rattle.corners.proofs.rowid.Tie as tie
 
@@ -24,7 +24,7 @@ returns-2 c d r =
     let at-pass = at-if1.before.before in
     let at_read = at-pass.before in
     let at-args = at_read.before.before.before.before.before in
-    a-rowid at-args.args.text.now at_read.read.ensures at-pass.pass.ensures at-if1.if1.false at_part.part.ensures (not-two _ _ at_split.split.ensures c.if2.true)
+    a_rowid at-args.args.text.now at_read.read.ensures at-pass.pass.ensures at-if1.if1.false at_part.part.ensures (not_two _ _ at_split.split.ensures c.if2.true)
 
 returns-3 : tie.Need-returns-3
 returns-3 c d r =
@@ -38,7 +38,7 @@ returns-3 c d r =
     let at-pass = at-if1.before.before in
     let at_read = at-pass.before in
     let at-args = at_read.before.before.before.before.before in
-    a-rowid at-args.args.text.now at_read.read.ensures at-pass.pass.ensures at-if1.if1.false at_part.part.ensures (two-parts _ _ at_split.split.ensures at-if2.if2.false at-part2.part2.ensures (word-said at-word.word.ensures) at-append.append.ensures)
+    a_rowid at-args.args.text.now at_read.read.ensures at-pass.pass.ensures at-if1.if1.false at_part.part.ensures (two_parts _ _ at_split.split.ensures at-if2.if2.false at-part2.part2.ensures (word_said at-word.word.ensures) at-append.append.ensures)
 
 pub rowid-spec : {M : Type 1} → statement M
 rowid-spec =

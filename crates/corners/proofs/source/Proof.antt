@@ -1,6 +1,6 @@
 -- `corners::source` writes the expression, or the source behind it.
 use borrow.Author.Rules.{rules}
-use Rattle.corners.specs.Laws.{the-run, the-source}
+use Rattle.corners.specs.Laws.{the_run, the_source}
 use Rattle.corners.proofs.source.Statement.{statement}
 use Rattle.corners.proofs.source.Tie as tie
 
@@ -11,7 +11,7 @@ returns c d r =
     let at_read = at-if1.before.before.before in
     let at-run = at_read.before.before in
     let at-args = at-run.before.before.before.before.before.before in
-    the-run at-args.args.text.now (at-run.run.ensures d r) at_read.read.ensures at-if1.if1.true (at-run2.run2.ensures d r) c.pass.ensures
+    the_run at-args.args.text.now (at-run.run.ensures d r) at_read.read.ensures at-if1.if1.true (at-run2.run2.ensures d r) c.pass.ensures
 
 returns-2 : tie.Need-returns-2
 returns-2 c d r =
@@ -22,7 +22,7 @@ returns-2 c d r =
     let at_read = at-if1.before.before.before in
     let at-run = at_read.before.before in
     let at-args = at-run.before.before.before.before.before.before in
-    the-source at-args.args.text.now (at-run.run.ensures d r) at_read.read.ensures at-if1.if1.false at_part.part.ensures at-pass2.pass2.ensures at-sourced.sourced.ensures
+    the_source at-args.args.text.now (at-run.run.ensures d r) at_read.read.ensures at-if1.if1.false at_part.part.ensures at-pass2.pass2.ensures at-sourced.sourced.ensures
 
 pub source-spec : {M : Type 1} → statement M
 source-spec =

@@ -1,6 +1,6 @@
 -- `corners::sourced` writes the source, and a newline behind dashes.
 use borrow.Author.Rules.{rules}
-use Rattle.corners.specs.Laws.{no-dashes, with-dashes}
+use Rattle.corners.specs.Laws.{no_dashes, with_dashes}
 use Rattle.corners.proofs.sourced.Statement.{statement}
 use Rattle.corners.proofs.sourced.Tie as tie
 
@@ -10,13 +10,13 @@ returns c =
     let at-if1 = at-append2.before.before.before in
     let at-dashes = at-if1.before in
     let at-append = at-dashes.before.before.before in
-    with-dashes _ at-dashes.dashes.ensures at-if1.if1.true at-append.append.ensures at-append2.append2.ensures
+    with_dashes _ at-dashes.dashes.ensures at-if1.if1.true at-append.append.ensures at-append2.append2.ensures
 
 returns-2 : tie.Need-returns-2
 returns-2 c =
     let at-dashes = c.before in
     let at-append = at-dashes.before.before.before in
-    no-dashes _ at-dashes.dashes.ensures c.if1.false at-append.append.ensures
+    no_dashes _ at-dashes.dashes.ensures c.if1.false at-append.append.ensures
 
 pub sourced-spec : {M : Type 1} → statement M
 sourced-spec =

@@ -5,7 +5,7 @@ use borrow.Author.Rules.{rules}
 use borrow.Author.Tests.{ne_eqb}
 use Rattle.reader.specs.Reader.{stop}
 use Rattle.cutter.specs.Line.{name_of, spaced}
-use Rattle.cutter.specs.Laws.{then, nothing, length-name, length-spaced, line-stop, line-none, line-lexeme}
+use Rattle.cutter.specs.Laws.{then, nothing, length_name, length_spaced, line_stop, line_none, line_lexeme}
 use Rattle.cutter.proofs.line.Statement.{statement}
 use Rattle.cutter.proofs.line.Tie as tie
 
@@ -14,7 +14,7 @@ returns c =
     let start = c.before.before.before.before.before.before.before.before.before.before.before.before.before.before.before.before in
     let name = c.before.before.before.before.before.before.before.before.before.before.before.put.ensures in
     let number = c.before.before.before.before.before.before.before.put-number.ensures in
-    rw (c.before.before.before.before.before.before.before.before.before.before.before.before.before.before.if1.true, line-stop start.args.start start.args.len)
+    rw (c.before.before.before.before.before.before.before.before.before.before.before.before.before.before.if1.true, line_stop start.args.start start.args.len)
     (then name (then number c.before.before.put2.ensures))
 
 returns-2 : tie.Need-returns-2
@@ -22,7 +22,7 @@ returns-2 c =
     let start = c.before.before.before.before.before.before.before in
     let name = c.before.before.before.put-name.ensures in
     let none = sym c.if2.true ∙ name.behind in
-    rw (line-none start.args.kind start.args.start start.args.len (ne_eqb _ stop c.before.before.before.before.before.if1.false) none)
+    rw (line_none start.args.kind start.args.start start.args.len (ne_eqb _ stop c.before.before.before.before.before.if1.false) none)
     (nothing (rw c.if2.true at name))
 
 returns-3 : tie.Need-returns-3
@@ -33,7 +33,7 @@ returns-3 c =
     let first = c.before.before.before.before.before.before.before.before.before.before.before.put-number2.ensures in
     let second = c.before.before.before.before.before.before.before.put-number3.ensures in
     let some = c.before.before.before.before.before.before.before.before.before.before.before.before.before.if2.false in
-    rw (line-lexeme start.args.kind start.args.start start.args.len (ne_eqb _ stop at_name.before.before.if1.false) (λ e. some (name.behind ∙ sym e)))
+    rw (line_lexeme start.args.kind start.args.start start.args.len (ne_eqb _ stop at_name.before.before.if1.false) (λ e. some (name.behind ∙ sym e)))
     (then name (then first (then second c.before.before.put3.ensures)))
 
 put-requires-2 : tie.Need-put-requires-2
@@ -43,13 +43,13 @@ put-requires-2 c κs =
       arith,
       c.before.before.before.before.put-number.ensures.behind,
       c.before.before.before.before.before.before.before.before.put.ensures.behind,
-      length-spaced start.args.start start.ranges.start.fits,
+      length_spaced start.args.start start.ranges.start.fits,
     )
 
 put-number-requires-2 : tie.Need-put-number-requires-2
 put-number-requires-2 c κs =
     let start = c.before.before.before.before.before.before.before.before in
-    omega (arith, c.before.before.before.before.put-name.ensures.behind, length-name start.args.kind)
+    omega (arith, c.before.before.before.before.put-name.ensures.behind, length_name start.args.kind)
 
 put-number-requires-3 : tie.Need-put-number-requires-3
 put-number-requires-3 c κs =
@@ -58,8 +58,8 @@ put-number-requires-3 c κs =
       arith,
       c.before.before.before.put-number2.ensures.behind,
       c.before.before.before.before.before.before.before.before.put-name.ensures.behind,
-      length-name start.args.kind,
-      length-spaced start.args.start start.ranges.start.fits,
+      length_name start.args.kind,
+      length_spaced start.args.start start.ranges.start.fits,
     )
 
 put-requires-3 : tie.Need-put-requires-3
@@ -71,9 +71,9 @@ put-requires-3 c κs =
       c.before.before.before.before.put-number3.ensures.behind,
       first.put-number2.ensures.behind,
       first.before.before.before.before.before.put-name.ensures.behind,
-      length-name start.args.kind,
-      length-spaced start.args.start start.ranges.start.fits,
-      length-spaced start.args.len start.ranges.len.fits,
+      length_name start.args.kind,
+      length_spaced start.args.start start.ranges.start.fits,
+      length_spaced start.args.len start.ranges.len.fits,
     )
 
 pub line-spec : {M : Type 1} → statement M

@@ -10,7 +10,7 @@ use lib.Dec.{eqb}
 use lib.ListN.{length}
 use borrow.Author.Rules.{rules}
 use Rattle.reader.specs.Turns.{inside, going, fewer}
-use Rattle.cutter.specs.Laws.{stored-few, kept}
+use Rattle.cutter.specs.Laws.{stored_few, kept}
 use Rattle.cutter.proofs.print_lines.Statement.{statement}
 use Rattle.cutter.proofs.print_lines.Tie as tie
 
@@ -46,7 +46,7 @@ cast-line-2 c =
 -- the line that is stored is no longer than the room that is left
 add-used : tie.Need-overflow-add-used invariant-loop decreases-loop
 add-used c =
-    let few = stored-few _ _ _ (cast-line c.before.before).fits (cast-line-2 c.before.before).fits c.before.line.ensures in
+    let few = stored_few _ _ _ (cast-line c.before.before).fits (cast-line-2 c.before.before).fits c.before.line.ensures in
     let room = c.before.before.before.before.before.before.emptied.ensures in
     record { fits = omega arith }
 
@@ -60,7 +60,7 @@ loop-again : tie.Need-loop-preserved invariant-loop decreases-loop
 loop-again c =
     let loop = c.before.before.before.before.before.before.before.before.before.before.loop in
     let stored = c.before.line.ensures in
-    let few = stored-few _ _ _ (cast-line c.before.before).fits (cast-line-2 c.before.before).fits stored in
+    let few = stored_few _ _ _ (cast-line c.before.before).fits (cast-line-2 c.before.before).fits stored in
     let emptied = c.before.before.before.before.before.before.emptied in
     let room = emptied.ensures in
     let lies = inside _ _ _ _ c.before.before.before.read.ensures in

@@ -4,8 +4,8 @@ use native.Mathlib.Omega.{arith}
 use lib.ListN.{length}
 use Rattle.decimal.specs.Decimal.{natural}
 use Rattle.decimal.specs.Powers.{most}
-use Rattle.decimal.specs.Laws.{length_some, length-below}
-use Rattle.decimal.proofs.Turns.{counts-on, counted}
+use Rattle.decimal.specs.Laws.{length_some, length_below}
+use Rattle.decimal.proofs.Turns.{counts_on, counted}
 use borrow.Author.Rules.{rules}
 use Rattle.decimal.proofs.count.Statement.{statement}
 use Rattle.decimal.proofs.count.Tie as tie
@@ -26,10 +26,10 @@ returns c =
 
 loop-again : tie.Need-loop-preserved invariant-loop decreases-loop
 loop-again c =
-    (omega arith, omega arith, omega (arith, counts-on _ _ _ (omega arith) c.before.power.ensures c.if1.false))
+    (omega arith, omega arith, omega (arith, counts_on _ _ _ (omega arith) c.before.power.ensures c.if1.false))
 
 returns-2 : tie.Need-returns-2 invariant-loop decreases-loop
-returns-2 c = omega (arith, length-below c.before.before.args.n 18 (omega arith))
+returns-2 c = omega (arith, length_below c.before.before.args.n 18 (omega arith))
 
 pub count_spec : {M : Type 1} → statement M
 count_spec =

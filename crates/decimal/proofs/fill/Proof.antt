@@ -6,7 +6,7 @@ use lib.Seq.{sets}
 use Rattle.decimal.specs.Decimal.{natural}
 use Rattle.decimal.specs.Laws.{length_some}
 use Rattle.decimal.proofs.Columns.{columns}
-use Rattle.decimal.proofs.Turns.{fill_start, take-fits, fill-turn, fill_one, fill-last}
+use Rattle.decimal.proofs.Turns.{fill_start, take_fits, fill_turn, fill_one, fill_last}
 use borrow.Author.Rules.{rules}
 use Rattle.decimal.proofs.fill.Statement.{statement}
 use Rattle.decimal.proofs.fill.Tie as tie
@@ -25,13 +25,13 @@ loop-holds c =
 take-requires : tie.Need-take-requires invariant-loop decreases-loop
 take-requires c κs =
     let at-loop = c.before.before.loop in
-    take-fits at-loop.out _ _ _ _ c.before.loop-test.true (omega arith) c.power.ensures at-loop.invariant.2
+    take_fits at-loop.out _ _ _ _ c.before.loop-test.true (omega arith) c.power.ensures at-loop.invariant.2
 
 loop-again : tie.Need-loop-preserved invariant-loop decreases-loop
 loop-again c =
     let at-loop = c.before.before.before.before.loop in
     let at_test = c.before.before.before.loop-test in
-    let s = fill-turn at-loop.out _ _ _ _ at_test.true (omega arith) c.before.before.power.ensures _ _ _ c.before.take.ensures c.glyph.ensures in
+    let s = fill_turn at-loop.out _ _ _ _ at_test.true (omega arith) c.before.before.power.ensures _ _ _ c.before.take.ensures c.glyph.ensures in
     (omega arith, omega arith, s.0, s.1 ∙ at-loop.invariant.3)
 
 glyph-requires-2 : tie.Need-glyph-requires-2 invariant-loop decreases-loop
@@ -42,7 +42,7 @@ glyph-requires-2 c κs =
 returns : tie.Need-returns invariant-loop decreases-loop
 returns c =
     let at-loop = c.before.before.loop in
-    fill-last _ _ _ _ (omega arith) at-loop.invariant.2 _ c.glyph2.ensures ∙ at-loop.invariant.3
+    fill_last _ _ _ _ (omega arith) at-loop.invariant.2 _ c.glyph2.ensures ∙ at-loop.invariant.3
 
 pub fill_spec : {M : Type 1} → statement M
 fill_spec =

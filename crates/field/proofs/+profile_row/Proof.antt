@@ -9,8 +9,8 @@ use mathlib.Core.List.{List, map}
 use mathlib.Core.Logic.{⊎_elim}
 use Rattle.grammar.specs.Shape.{Class}
 use Rattle.tree.specs.Check.{place}
-use Rattle.field.specs.Nodes.{nodesAt, codes}
-use Rattle.field.specs.Walk.{Going, start, all-met, turn-there, turn-led, turn-breaks, turn-left, turn-found, turn_on, turn-childless}
+use Rattle.field.specs.Nodes.{nodes_at, codes}
+use Rattle.field.specs.Walk.{Going, start, all_met, turn_there, turn_led, turn_breaks, turn_left, turn_found, turn_on, turn_childless}
 use borrow.Fn.Kinds.{In}
 use borrow.Fn.PlainCycle.{Measures, is, falls, and}
 use Rattle.field.proofs.profile_row.Reads as profile-row
@@ -38,7 +38,7 @@ profile-row-calls t = (read-reads.Asked, read-reads.Learnt, breaks-reads.Asked, 
 -- whatever places they are, some of them are left
 abbrev profile-row-Inv-loop : profile-row-lts.invariant-loop
 profile-row-Inv-loop tree index nodes left n next₀ row₀ rest₀ next row rest =
-    (cs : List Class) → map nodesAt cs ≡ codes nodes n → Going tree index (map (place (25 - left)) cs) left next row rest
+    (cs : List Class) → map nodes_at cs ≡ codes nodes n → Going tree index (map (place (25 - left)) cs) left next row rest
 
 abbrev profile-row-μ-loop : profile-row-lts.decreases-loop
 profile-row-μ-loop tree index nodes left n next₀ row₀ rest₀ next row rest = rest
@@ -55,12 +55,12 @@ profile-row-met t =
     (λ c.  -- returns
     let at-breaks = c.before in
     let at_test = at-breaks.before.before in
-    λ cs e. turn-breaks (at_test.before.loop.invariant cs e) at_test.loop-test.true _ at-breaks.breaks.ensures c.if1.true)
+    λ cs e. turn_breaks (at_test.before.loop.invariant cs e) at_test.loop-test.true _ at-breaks.breaks.ensures c.if1.true)
     (λ c.  -- add-next
     let at_test = c.before.before.before in
     let at-start = at_test.before.before.before in
     let led = at-start.requires.1.1 in
-    let there = turn-there (at_test.before.loop.invariant led.classes led.coded) at_test.loop-test.true led.rest led.sound in
+    let there = turn_there (at_test.before.loop.invariant led.classes led.coded) at_test.loop-test.true led.rest led.sound in
     omega (arith, there.0, there.1))
     (λ c κs.  -- nodes-below-requires
     omega arith)
@@ -69,7 +69,7 @@ profile-row-met t =
     let at-if1 = c.before.before.before in
     let at_test = at-breaks.before.before in
     let led = at_test.before.before.before.requires.1.1 in
-    omega (arith, turn-left (at_test.before.loop.invariant led.classes led.coded) at_test.loop-test.true _ at-breaks.breaks.ensures at-if1.if1.false))
+    omega (arith, turn_left (at_test.before.loop.invariant led.classes led.coded) at_test.loop-test.true _ at-breaks.breaks.ensures at-if1.if1.false))
     (λ c κs.  -- profile-row-requires
     let at-breaks = c.before.before.before.before in
     let at-if1 = c.before.before.before in
@@ -78,11 +78,11 @@ profile-row-met t =
     let at-start = at_test.before.before.before in
     let led = at-start.requires.1.1 in
     let going = at_test.before.loop.invariant led.classes led.coded in
-    let l = turn-left going at_test.loop-test.true _ at-breaks.breaks.ensures at-if1.if1.false in (
+    let l = turn_left going at_test.loop-test.true _ at-breaks.breaks.ensures at-if1.if1.false in (
       omega (arith, at-start.requires.0),
       (
         omega (arith, at-start.requires.1.0),
-        rw (c.nodes-below.ensures, at_read.read.ensures) (turn-led going at_test.loop-test.true led.rest led.sound l at-start.requires.1.0),
+        rw (c.nodes-below.ensures, at_read.read.ensures) (turn_led going at_test.loop-test.true led.rest led.sound l at-start.requires.1.0),
       ),
     ))
     (λ c.  -- returns-2
@@ -94,7 +94,7 @@ profile-row-met t =
     let at_test = at_read.before in
     let at-start = at_test.before.before.before in
     λ cs e.
-    turn-found (at_test.before.loop.invariant cs e) at_test.loop-test.true _ at-breaks.breaks.ensures at-if1.if1.false at-start.requires.1.0
+    turn_found (at_test.before.loop.invariant cs e) at_test.loop-test.true _ at-breaks.breaks.ensures at-if1.if1.false at-start.requires.1.0
     (rw (at-below.nodes-below.ensures, at_read.read.ensures) at at-found.profile-row.ensures) c.if3.true)
     (λ c κs.  -- turned-requires
     search rules)
@@ -118,10 +118,10 @@ profile-row-met t =
     (λ w.
     rw w.4
     (turn_on (at_test.before.loop.invariant cs e) some _ be z at-start.requires.1.0 (rw (w.1.ensures, at_read.read.ensures) at w.2.ensures) w.3.left))
-    (λ w. rw w.1 (turn-childless (at_test.before.loop.invariant cs e) some _ be z (rw at_read.read.ensures at w.0.left)))
+    (λ w. rw w.1 (turn_childless (at_test.before.loop.invariant cs e) some _ be z (rw at_read.read.ensures at w.0.left)))
     at-if2.if2.branch))
     (λ c.  -- returns-3
-    λ cs e. all-met _ _ _ _ _ _ _ c.loop-test.false (c.before.loop.invariant cs e))
+    λ cs e. all_met _ _ _ _ _ _ _ c.loop-test.false (c.before.loop.invariant cs e))
 
 pub +profile-row-spec : {M : Type 1} → statement M
 +profile-row-spec = close μ-profile-row profile-row-met

@@ -1,22 +1,22 @@
--- `field::breaks` meets its contract: it goes by the tests of `breaksBy`, one behind the other.
+-- `field::breaks` meets its contract: it goes by the tests of `breaks_by`, one behind the other.
 use borrow.Author.Rules.{rules}
 use borrow.Author.Tests.{eq-eqb, ne_eqb}
-use Rattle.field.specs.Nodes.{breaksBy}
+use Rattle.field.specs.Nodes.{breaks_by}
 use Rattle.field.proofs.breaks.Statement.{statement}
 use Rattle.field.proofs.breaks.Tie as tie
 
 returns : tie.Need-returns
-unfolding breaksBy
+unfolding breaks_by
 returns c = rw (eq-eqb _ 0 c.if1.true)
 
 returns-2 : tie.Need-returns-2
-unfolding breaksBy
+unfolding breaks_by
 returns-2 c =
     let at-if1 = c.before.before in
     rw (ne_eqb _ 0 at-if1.if1.false, ← at-if1.before.before.requires, c.if2.true)
 
 returns-3 : tie.Need-returns-3
-unfolding breaksBy
+unfolding breaks_by
 returns-3 c =
     let at-if2 = c.before in
     let at-if1 = at-if2.before.before in

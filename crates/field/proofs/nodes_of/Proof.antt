@@ -4,19 +4,19 @@ use mathlib.Core.Path.{◌≡◌, ap, sym}
 use Rattle.laws.specs.Apart.{absent}
 use Rattle.grammar.specs.Grammar.{shape}
 use Rattle.grammar.specs.Slots.{slots_of}
-use Rattle.field.specs.Profile.{takesNode}
-use Rattle.field.specs.Nodes.{nodesAt, nodesOf, holders, none-held}
+use Rattle.field.specs.Profile.{takes_node}
+use Rattle.field.specs.Nodes.{nodes_at, nodes_of, holders, none_held}
 use Rattle.field.proofs.nodes_of.Statement.{statement}
 use Rattle.field.proofs.nodes_of.Tie as tie
 
-line : {n k : ℕ} → n ≡ k → nodesOf k ≡ nodesOf n
-line e = ap nodesOf (sym e)
+line : {n k : ℕ} → n ≡ k → nodes_of k ≡ nodes_of n
+line e = ap nodes_of (sym e)
 
 rest : tie.Need-returns-34
-rest c = none-held c.before.args.k (absent holders c.before.args.k c.match.rest)
+rest c = none_held c.before.args.k (absent holders c.before.args.k c.match.rest)
 
 pub nodes-of-spec : {M : Type 1} → statement M
-unfolding nodesOf nodesAt takesNode shape slots_of
+unfolding nodes_of nodes_at takes_node shape slots_of
 nodes-of-spec =
     tie.close
     (tie.spec

@@ -2,7 +2,7 @@
 use borrow.Author.Tests.{eq-eqb, ne_eqb}
 use mathlib.Core.Path.{sym}
 use lib.Dec.{eqb}
-use Rattle.grammar.specs.Groups.{or-none}
+use Rattle.grammar.specs.Groups.{or_none}
 use Rattle.grammar.specs.Kind.{AlterTable, CreateIndex, CreateTable, DropIndex, DropTable}
 use Rattle.field.proofs.of_the_five.Statement.{statement}
 use Rattle.field.proofs.of_the_five.Tie as tie
@@ -30,7 +30,7 @@ returns-5 c =
     let at-if2 = at-if3.before in
     let k = at-if2.before.before.args.k in
     rw (ne_eqb k CreateTable at-if2.before.if1.false, ne_eqb k CreateIndex at-if2.if2.false, ne_eqb k DropTable at-if3.if3.false, ne_eqb k DropIndex c.if4.false)
-    (sym (or-none (eqb k AlterTable)))
+    (sym (or_none (eqb k AlterTable)))
 
 pub of-the-five-spec : {M : Type 1} → statement M
 of-the-five-spec = tie.close (tie.spec returns returns-2 returns-3 returns-4 returns-5)

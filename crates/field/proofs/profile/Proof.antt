@@ -2,7 +2,7 @@
 -- first that breaks the profile, or to none.
 use native.Mathlib.Omega.{arith}
 use borrow.Author.Rules.{rules}
-use Rattle.field.specs.Laws.{led, found-is, told-refused, told-unfit, told_fit}
+use Rattle.field.specs.Laws.{led, found_is, told_refused, told_unfit, told_fit}
 use mathlib.Core.Path.{◌∙◌, sym}
 use Rattle.field.proofs.profile.Statement.{statement}
 use Rattle.field.proofs.profile.Tie as tie
@@ -10,7 +10,7 @@ use Rattle.field.proofs.profile.Tie as tie
 returns : tie.Need-returns
 returns c =
     let at-number = c.before in
-    told-refused at-number.before.measure.ensures _ at-number.number.ensures c.if1.true
+    told_refused at-number.before.measure.ensures _ at-number.number.ensures c.if1.true
 
 profile-row-requires : tie.Need-profile-row-requires
 profile-row-requires c κs =
@@ -24,7 +24,7 @@ returns-2 c =
     let measures = at-number.before.measure.ensures in
     let is = at-number.number.ensures in
     let z = at_row.before.if1.false in
-    told-unfit measures _ is z (found-is measures (sym is ∙ z) at_row.profile-row.ensures) c.if2.true
+    told_unfit measures _ is z (found_is measures (sym is ∙ z) at_row.profile-row.ensures) c.if2.true
 
 returns-3 : tie.Need-returns-3
 returns-3 c =
@@ -33,7 +33,7 @@ returns-3 c =
     let measures = at-number.before.measure.ensures in
     let is = at-number.number.ensures in
     let z = at_row.before.if1.false in
-    told_fit measures _ is z (found-is measures (sym is ∙ z) at_row.profile-row.ensures) c.if2.false
+    told_fit measures _ is z (found_is measures (sym is ∙ z) at_row.profile-row.ensures) c.if2.false
 
 pub profile-spec : {M : Type 1} → statement M
 profile-spec = tie.close (tie.spec (λ c κs. search rules) (λ c κs. search rules) returns profile-row-requires returns-2 returns-3)

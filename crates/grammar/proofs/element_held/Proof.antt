@@ -4,19 +4,19 @@ use native.Mathlib.Omega.{arith}
 use mathlib.Core.Path.{◌≡◌, ap, sym}
 use Rattle.laws.specs.Apart.{apart}
 use Rattle.grammar.specs.Slots.{elements}
-use Rattle.grammar.specs.Classes.{classesHeld, classes, class_at}
-use Rattle.grammar.specs.Packed.{elementOf, numbered, sameClass, sameRule}
+use Rattle.grammar.specs.Classes.{classes_held, classes, class_at}
+use Rattle.grammar.specs.Packed.{element_of, numbered, same_class, same_rule}
 use Rattle.grammar.proofs.element_held.Statement.{statement}
 use Rattle.grammar.proofs.element_held.Tie as tie
 
-line : {n k : ℕ} → n ≡ k → elementOf k ≡ elementOf n
-line e = ap elementOf (sym e)
+line : {n k : ℕ} → n ≡ k → element_of k ≡ element_of n
+line e = ap element_of (sym e)
 
 rest : tie.Need-returns-52
-rest c = absurd (omega (arith, apart classesHeld c.before.args.place c.match.rest))
+rest c = absurd (omega (arith, apart classes_held c.before.args.place c.match.rest))
 
 pub element-held-spec : {M : Type 1} → statement M
-unfolding elementOf numbered sameClass sameRule elements class_at classes
+unfolding element_of numbered same_class same_rule elements class_at classes
 element-held-spec =
     tie.close
     (tie.spec

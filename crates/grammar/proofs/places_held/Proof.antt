@@ -6,7 +6,7 @@ use Rattle.laws.specs.Apart.{apart}
 use Rattle.grammar.specs.Grammar.{shape}
 use Rattle.grammar.specs.Slots.{slots_of}
 use Rattle.grammar.specs.Classes.{classes}
-use Rattle.grammar.specs.Packed.{kindsHeld, places_of, numbered, sameClass, sameRule}
+use Rattle.grammar.specs.Packed.{kinds_held, places_of, numbered, same_class, same_rule}
 use Rattle.grammar.proofs.places_held.Statement.{statement}
 use Rattle.grammar.proofs.places_held.Tie as tie
 
@@ -14,10 +14,10 @@ line : {n k : ℕ} → n ≡ k → places_of k ≡ places_of n
 line e = ap places_of (sym e)
 
 rest : tie.Need-returns-122
-rest c = absurd (omega (arith, apart kindsHeld c.before.args.kind c.match.rest))
+rest c = absurd (omega (arith, apart kinds_held c.before.args.kind c.match.rest))
 
 pub places-held-spec : {M : Type 1} → statement M
-unfolding places_of numbered sameClass sameRule shape slots_of classes
+unfolding places_of numbered same_class same_rule shape slots_of classes
 places-held-spec =
     tie.close
     (tie.spec

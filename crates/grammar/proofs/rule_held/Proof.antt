@@ -4,19 +4,19 @@ use native.Mathlib.Omega.{arith}
 use mathlib.Core.Path.{◌≡◌, ap, sym}
 use Rattle.laws.specs.Apart.{apart}
 use Rattle.grammar.specs.Grammar.{shape}
-use Rattle.grammar.specs.Slots.{slots_of, flagsBelow}
-use Rattle.grammar.specs.Packed.{kindsHeld, ruleOf}
+use Rattle.grammar.specs.Slots.{slots_of, flags_below}
+use Rattle.grammar.specs.Packed.{kinds_held, rule_of}
 use Rattle.grammar.proofs.rule_held.Statement.{statement}
 use Rattle.grammar.proofs.rule_held.Tie as tie
 
-line : {n k : ℕ} → n ≡ k → ruleOf k ≡ ruleOf n
-line e = ap ruleOf (sym e)
+line : {n k : ℕ} → n ≡ k → rule_of k ≡ rule_of n
+line e = ap rule_of (sym e)
 
 rest : tie.Need-returns-122
-rest c = absurd (omega (arith, apart kindsHeld c.before.args.kind c.match.rest))
+rest c = absurd (omega (arith, apart kinds_held c.before.args.kind c.match.rest))
 
 pub rule-held-spec : {M : Type 1} → statement M
-unfolding ruleOf shape slots_of flagsBelow
+unfolding rule_of shape slots_of flags_below
 rule-held-spec =
     tie.close
     (tie.spec

@@ -5,18 +5,18 @@ use mathlib.Core.Path.{◌≡◌, ap, sym}
 use Rattle.laws.specs.Apart.{apart}
 use Rattle.grammar.specs.Slots.{allowed}
 use Rattle.grammar.specs.Classes.{classes, class_at}
-use Rattle.grammar.specs.Packed.{kindsHeld, standsOf}
+use Rattle.grammar.specs.Packed.{kinds_held, stands_of}
 use Rattle.grammar.proofs.stands_held.Statement.{statement}
 use Rattle.grammar.proofs.stands_held.Tie as tie
 
-line : {n k : ℕ} → n ≡ k → standsOf k ≡ standsOf n
-line e = ap standsOf (sym e)
+line : {n k : ℕ} → n ≡ k → stands_of k ≡ stands_of n
+line e = ap stands_of (sym e)
 
 rest : tie.Need-returns-122
-rest c = absurd (omega (arith, apart kindsHeld c.before.args.kind c.match.rest))
+rest c = absurd (omega (arith, apart kinds_held c.before.args.kind c.match.rest))
 
 pub stands-held-spec : {M : Type 1} → statement M
-unfolding standsOf class_at classes allowed
+unfolding stands_of class_at classes allowed
 stands-held-spec =
     tie.close
     (tie.spec

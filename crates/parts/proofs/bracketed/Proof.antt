@@ -8,7 +8,7 @@ use Rattle.mode.specs.declared.Edition.TheVariants.{Crate}
 use Rattle.record.specs.Laws as records
 use Rattle.tokens.specs.Tokens.{rows, comma, means}
 use Rattle.pen.specs.Pen.{source_of, source, put}
-use Rattle.pen.specs.Laws.{puts-length}
+use Rattle.pen.specs.Laws.{puts_length}
 use Rattle.pen.specs.Rows.{opt, row_first, row_done}
 use Rattle.parts.specs.Runs.{tuple}
 use Rattle.parts.proofs.bracketed.Statement.{statement}
@@ -45,4 +45,4 @@ bracketed-spec =
     tie.close
     (tie.spec
     invariant-loop decreases-loop loop-holds (λ c κs. search rules) (λ c κs. search rules) (λ c. search rules)
-    (λ c. search rules) loop-again (λ c. puts-length (returns c 0 Crate)) returns)
+    (λ c. search rules) loop-again (λ c. puts_length (returns c 0 Crate)) returns)

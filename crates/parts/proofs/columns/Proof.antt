@@ -1,6 +1,6 @@
 -- `parts::columns` passes over an empty LIST.
 use borrow.Author.Rules.{rules}
-use Rattle.pen.specs.Places.{filled_none, filled-some}
+use Rattle.pen.specs.Places.{filled_none, filled_some}
 use Rattle.parts.proofs.columns.Statement.{statement}
 use Rattle.parts.proofs.columns.Tie as tie
 
@@ -15,7 +15,7 @@ returns-2 c d r =
     let at-in-parens = c.before.before in
     let at-if1 = at-in-parens.before.before in
     let at_read = at-if1.before.before in
-    filled-some at_read.read.ensures at-if1.if1.false (at-in-parens.in-parens.ensures d r)
+    filled_some at_read.read.ensures at-if1.if1.false (at-in-parens.in-parens.ensures d r)
 
 pub columns_spec : {M : Type 1} → statement M
 columns_spec =

@@ -8,7 +8,7 @@ use Rattle.mode.specs.declared.Edition.TheVariants.{Crate}
 use Rattle.record.specs.Laws as records
 use Rattle.tokens.specs.Tokens.{rows, means}
 use Rattle.pen.specs.Pen.{source_of, source, put}
-use Rattle.pen.specs.Laws.{◌▹◌, puts-length}
+use Rattle.pen.specs.Laws.{◌▹◌, puts_length}
 use Rattle.pen.specs.Rows.{nothing, row_first, row_done}
 use Rattle.parts.specs.Runs.{ended}
 use Rattle.parts.proofs.ended.Statement.{statement}
@@ -44,4 +44,4 @@ ended-spec =
     tie.close
     (tie.spec
     invariant-loop decreases-loop loop-holds (λ c κs. search rules) (λ c κs. search rules) (λ c. search rules)
-    (λ c. search rules) loop-again (λ c. puts-length (returns c 0 Crate)) returns)
+    (λ c. search rules) loop-again (λ c. puts_length (returns c 0 Crate)) returns)

@@ -1,7 +1,7 @@
 -- `parts::if_exists` writes its words under the flag.
 use borrow.Author.Rules.{rules}
 use Rattle.pen.specs.Laws.{◌▹◌}
-use Rattle.pen.specs.Places.{under, not-under}
+use Rattle.pen.specs.Places.{under, not_under}
 use Rattle.parts.proofs.if_exists.Statement.{statement}
 use Rattle.parts.proofs.if_exists.Tie as tie
 
@@ -13,7 +13,7 @@ returns c e d r bit h =
     under h at-if1.if1.true (at-word.word.ensures e d r ▹ at-word2.word2.ensures e d r)
 
 returns-2 : tie.Need-returns-2
-returns-2 c e d r bit h = not-under h c.if1.false
+returns-2 c e d r bit h = not_under h c.if1.false
 
 pub if-exists-spec : {M : Type 1} → statement M
 if-exists-spec =

@@ -1,6 +1,6 @@
 -- `parts::part` meets its contract: none of the part is there, some of it, or all.
 use borrow.Author.Rules.{rules}
-use Rattle.parts.specs.Laws.{part_none, part-rest, part-whole}
+use Rattle.parts.specs.Laws.{part_none, part_rest, part_whole}
 use Rattle.parts.proofs.part.Statement.{statement}
 use Rattle.parts.proofs.part.Tie as tie
 
@@ -14,12 +14,12 @@ returns-2 : tie.Need-returns-2
 returns-2 c =
     let at-if2 = c.before in
     let at-args = at-if2.before.before in
-    part-rest at-args.args.text.now at-args.args.start at-args.args.len at-if2.if2.true
+    part_rest at-args.args.text.now at-args.args.start at-args.args.len at-if2.if2.true
 
 returns-3 : tie.Need-returns-3
 returns-3 c =
     let at-args = c.before.before.before in
-    part-whole at-args.args.text.now at-args.args.start at-args.args.len
+    part_whole at-args.args.text.now at-args.args.start at-args.args.len
 
 pub part-spec : {M : Type 1} → statement M
 part-spec =

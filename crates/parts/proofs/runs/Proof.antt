@@ -9,7 +9,7 @@ use Rattle.record.specs.Laws as records
 use Rattle.grammar.specs.Grammar.{run}
 use Rattle.tokens.specs.Tokens.{rows, placed, comma, means, node}
 use Rattle.pen.specs.Pen.{source_of, source, put}
-use Rattle.pen.specs.Laws.{puts-length}
+use Rattle.pen.specs.Laws.{puts_length}
 use Rattle.pen.specs.Rows.{opt, row_first, row_done}
 use Rattle.parts.proofs.runs.Statement.{statement}
 use Rattle.parts.proofs.runs.Tie as tie
@@ -46,4 +46,4 @@ runs-spec =
     tie.close
     (tie.spec
     invariant-loop decreases-loop loop-holds (λ c κs. search rules) (λ c κs. search rules) (λ c. search rules)
-    (λ c. search rules) loop-again (λ c. puts-length (returns c 0 Crate)) returns)
+    (λ c. search rules) loop-again (λ c. puts_length (returns c 0 Crate)) returns)

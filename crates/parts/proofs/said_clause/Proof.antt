@@ -1,6 +1,6 @@
 -- `parts::said_clause` passes over NONE.
 use borrow.Author.Rules.{rules}
-use Rattle.parts.specs.Laws.{said-none, said-some}
+use Rattle.parts.specs.Laws.{said_none, said_some}
 use Rattle.parts.proofs.said_clause.Statement.{statement}
 use Rattle.parts.proofs.said_clause.Tie as tie
 
@@ -9,7 +9,7 @@ returns c =
     let at-if1 = c.before in
     let at_read = at-if1.before.before in
     let at-args = at_read.before.before.before.before.before.before in
-    said-none at-args.args.text.now at_read.read.ensures at-if1.if1.true c.pass.ensures
+    said_none at-args.args.text.now at_read.read.ensures at-if1.if1.true c.pass.ensures
 
 returns-2 : tie.Need-returns-2
 returns-2 c =
@@ -18,7 +18,7 @@ returns-2 c =
     let at-if1 = at-said.before.before in
     let at_read = at-if1.before.before in
     let at-args = at_read.before.before.before.before.before.before in
-    said-some at-args.args.text.now at_read.read.ensures at-if1.if1.false at-said.said.ensures at-run.run.ensures
+    said_some at-args.args.text.now at_read.read.ensures at-if1.if1.false at-said.said.ensures at-run.run.ensures
 
 pub said-clause-spec : {M : Type 1} → statement M
 said-clause-spec =

@@ -2,7 +2,7 @@
 use native.Mathlib.Omega.{arith}
 use borrow.Author.Rules.{rules}
 use Rattle.grammar.specs.Kind.{TOKEN}
-use Rattle.parts.specs.Laws.{of_other, bare-token, valued-token}
+use Rattle.parts.specs.Laws.{of_other, bare_token, valued_token}
 use Rattle.parts.proofs.token.Statement.{statement}
 use Rattle.parts.proofs.token.Tie as tie
 
@@ -21,7 +21,7 @@ returns-2 c =
     let at-pass = at-if1.before.before in
     let at_read = at-pass.before in
     let at-args = at_read.before.before.before.before.before in
-    bare-token at-args.args.text.now at_read.read.ensures at-pass.pass.ensures at-if1.if1.false (omega (arith, at-if2.if2.true))
+    bare_token at-args.args.text.now at_read.read.ensures at-pass.pass.ensures at-if1.if1.false (omega (arith, at-if2.if2.true))
     at_bare.bare.ensures
 
 returns-3 : tie.Need-returns-3
@@ -33,7 +33,7 @@ returns-3 c =
     let at-pass = at-if1.before.before in
     let at_read = at-pass.before in
     let at-args = at_read.before.before.before.before.before in
-    valued-token at-args.args.text.now at_read.read.ensures at-pass.pass.ensures at-if1.if1.false (omega (arith, at-if2.if2.false))
+    valued_token at-args.args.text.now at_read.read.ensures at-pass.pass.ensures at-if1.if1.false (omega (arith, at-if2.if2.false))
     at_part.part.ensures at-valued.valued.ensures
 
 pub token-spec : {M : Type 1} → statement M

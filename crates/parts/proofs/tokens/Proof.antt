@@ -6,15 +6,15 @@ use Rattle.mode.specs.declared.Edition.{Edition}
 use Rattle.mode.specs.declared.Edition.TheVariants.{Crate}
 use Rattle.tokens.specs.Tokens.{rows}
 use Rattle.pen.specs.Pen.{source_of, source, put}
-use Rattle.pen.specs.Places.{tokenAt}
-use Rattle.pen.specs.Laws.{puts-length}
+use Rattle.pen.specs.Places.{token_at}
+use Rattle.pen.specs.Laws.{puts_length}
 use Rattle.pen.specs.Rows.{nothing, row_first, row_done}
 use Rattle.parts.proofs.tokens.Statement.{statement}
 use Rattle.parts.proofs.tokens.Tie as tie
 
 abbrev invariant-loop : tie.invariant-loop
 invariant-loop out₀ pool tree text n q₀ rest₀ out q rest =
-    (v : Edition) → put pool (rows (tokenAt (source_of v (source tree text))) [] [] rest q.next) (q, out) ≡ put pool (rows (tokenAt (source_of v (source tree text))) [] [] n q₀.next) (q₀, out₀)
+    (v : Edition) → put pool (rows (token_at (source_of v (source tree text))) [] [] rest q.next) (q, out) ≡ put pool (rows (token_at (source_of v (source tree text))) [] [] n q₀.next) (q₀, out₀)
 
 abbrev decreases-loop : tie.decreases-loop
 decreases-loop out₀ pool tree text n q₀ rest₀ out q rest = rest
@@ -36,4 +36,4 @@ tokens-spec =
     tie.close
     (tie.spec
     invariant-loop decreases-loop (λ c v. refl) (λ c κs. search rules) (λ c. search rules) (λ c. search rules)
-    loop-again (λ c. puts-length (returns c Crate)) returns)
+    loop-again (λ c. puts_length (returns c Crate)) returns)

@@ -1,7 +1,7 @@
 -- `parts::word_list` passes over an empty LIST.
 use borrow.Author.Rules.{rules}
 use Rattle.pen.specs.Laws.{◌▹◌}
-use Rattle.pen.specs.Places.{filled_none, filled-some}
+use Rattle.pen.specs.Places.{filled_none, filled_some}
 use Rattle.parts.proofs.word_list.Statement.{statement}
 use Rattle.parts.proofs.word_list.Tie as tie
 
@@ -17,7 +17,7 @@ returns-2 c d r =
     let at-word = at-comma.before.before.before.before in
     let at-if1 = at-word.before.before in
     let at_read = at-if1.before.before in
-    filled-some at_read.read.ensures at-if1.if1.false (at-word.word.ensures _ d r ▹ at-comma.comma.ensures d r)
+    filled_some at_read.read.ensures at-if1.if1.false (at-word.word.ensures _ d r ▹ at-comma.comma.ensures d r)
 
 pub word-list-spec : {M : Type 1} → statement M
 word-list-spec =

@@ -2,11 +2,11 @@
 use Prim.Native.Nat.{◌≤◌}
 use native.Mathlib.Omega.{arith}
 use lib.ListN.{length}
-use Rattle.spelling.specs.Laws.{spelled-by-row}
+use Rattle.spelling.specs.Laws.{spelled_by_row}
 use Rattle.stream.specs.Sink.{most}
 use borrow.Author.Rules.{rules}
-use Rattle.pen.specs.Laws.{appended, says-from}
-use Rattle.pen.specs.Quick.{marked, not-led, led-word}
+use Rattle.pen.specs.Laws.{appended, says_from}
+use Rattle.pen.specs.Quick.{marked, not_led, led_word}
 use Rattle.pen.proofs.bare.Statement.{statement}
 use Rattle.pen.proofs.bare.Tie as tie
 
@@ -18,7 +18,7 @@ returns c =
     let at_cut = at-if1.before in
     let at_row = at_cut.before in
     let start = at_row.before.before.before in
-    let is = spelled-by-row start.args.pool.now _ start.args.kind _ at_row.row.ensures at_cut.cut.ensures in
+    let is = spelled_by_row start.args.pool.now _ start.args.kind _ at_row.row.ensures at_cut.cut.ensures in
     let held : length start.args.out.now ≤ most = omega (arith, start.well-formed.1.0) in
     appended is (marked start.args.pool.now _ _ _ _ _ _ held is at-if1.if1.true at_gap.gap.ensures at-put.put_byte.ensures c.opens.ensures)
 
@@ -31,7 +31,7 @@ returns-3 c =
     let at_told = at-append.before.before.before in
     let at-lay = at_told.before.before.before.before in
     let start = at-lay.before.before.before.before.before.before.before.before in
-    says-from (not-led start.args.p.sink start.args.out.now _ _ _ at-lay.lay.ensures at_told.enum_told.given.1) at-append.append2.ensures
+    says_from (not_led start.args.p.sink start.args.out.now _ _ _ at-lay.lay.ensures at_told.enum_told.given.1) at-append.append2.ensures
 
 returns-4 : tie.Need-returns-4
 returns-4 c =
@@ -42,9 +42,9 @@ returns-4 c =
     let at_cut = at-if1.before in
     let at_row = at_cut.before in
     let start = at_row.before.before.before in
-    let is = spelled-by-row start.args.pool.now _ start.args.kind _ at_row.row.ensures at_cut.cut.ensures in
+    let is = spelled_by_row start.args.pool.now _ start.args.kind _ at_row.row.ensures at_cut.cut.ensures in
     appended is
-    (led-word start.args.p.sink start.args.out.now _ _ _ at-lay.lay.ensures start.args.pool.now _ _ is at-if2.if2.false at-if1.if1.false at_told.l.given.1)
+    (led_word start.args.p.sink start.args.out.now _ _ _ at-lay.lay.ensures start.args.pool.now _ _ is at-if2.if2.false at-if1.if1.false at_told.l.given.1)
 
 pub bare_spec : {M : Type 1} → statement M
 bare_spec =

@@ -2,8 +2,8 @@
 use mathlib.Core.Path.{refl, sym, ◌∙◌}
 use borrow.Author.Tests.{not-false}
 use borrow.Author.Rules.{rules}
-use Rattle.pen.specs.Laws.{appended, says-from}
-use Rattle.pen.specs.Quick.{not-led, led-value}
+use Rattle.pen.specs.Laws.{appended, says_from}
+use Rattle.pen.specs.Quick.{not_led, led_value}
 use Rattle.pen.proofs.valued.Statement.{statement}
 use Rattle.pen.proofs.valued.Tie as tie
 
@@ -16,7 +16,7 @@ returns-2 c =
     let at_told = at-append.before.before in
     let at-lay = at_told.before.before.before.before in
     let start = at-lay.before.before.before.before.before.before.before in
-    says-from (not-led start.args.p.sink start.args.out.now _ _ _ at-lay.lay.ensures at_told.enum_told.given.1) at-append.append2.ensures
+    says_from (not_led start.args.p.sink start.args.out.now _ _ _ at-lay.lay.ensures at_told.enum_told.given.1) at-append.append2.ensures
 
 returns-3 : tie.Need-returns-3
 returns-3 c =
@@ -26,7 +26,7 @@ returns-3 c =
     let at-alone = at-if1.before in
     let start = at-alone.before.before.before.before in
     appended refl
-    (led-value start.args.p.sink start.args.out.now _ _ _ at-lay.lay.ensures start.args.pool.now _ _ _ (sym at-alone.alone.ensures ∙ not-false _ at-if1.if1.false)
+    (led_value start.args.p.sink start.args.out.now _ _ _ at-lay.lay.ensures start.args.pool.now _ _ _ (sym at-alone.alone.ensures ∙ not-false _ at-if1.if1.false)
     c.all-blank.ensures at_told.l.given.1)
 
 pub valued-spec : {M : Type 1} → statement M

@@ -5,7 +5,7 @@ use native.Mathlib.Omega.{arith}
 use lib.ListN.{length, take}
 use lib.Seq.{take_all}
 use Rattle.position.specs.Position.{lines, column}
-use Rattle.position.specs.Laws.{lines_more, column-more, lines-within, column-within}
+use Rattle.position.specs.Laws.{lines_more, column_more, lines_within, column_within}
 use borrow.Author.Rules.{rules}
 use Rattle.position.proofs.newlines.Statement.{statement}
 use Rattle.position.proofs.newlines.Tie as tie
@@ -23,12 +23,12 @@ loop-holds c = (omega arith, (refl, refl))
 add-lines : tie.Need-overflow-add-lines invariant-loop decreases-loop
 add-lines c =
     let loop = c.before.before.before.loop in
-    omega (arith, lines-within c.before.before.before.before.before.args.s.now loop.i c.before.before.loop-test.true, loop.invariant.1.0, c.newline.ensures)
+    omega (arith, lines_within c.before.before.before.before.before.args.s.now loop.i c.before.before.loop-test.true, loop.invariant.1.0, c.newline.ensures)
 
 next-requires : tie.Need-next-requires invariant-loop decreases-loop
 next-requires c κs =
     let loop = c.before.before.before.before.loop in
-    omega (arith, column-within c.before.before.before.before.before.before.args.s.now loop.i c.before.before.before.loop-test.true, loop.invariant.1.1)
+    omega (arith, column_within c.before.before.before.before.before.before.args.s.now loop.i c.before.before.before.loop-test.true, loop.invariant.1.1)
 
 loop-again : tie.Need-loop-preserved invariant-loop decreases-loop
 loop-again c =
@@ -36,7 +36,7 @@ loop-again c =
     let s = c.before.before.before.before.before.before.before.args.s.now in
     let some = c.before.before.before.before.loop-test.true in (
       omega arith,
-      (rw (lines_more s loop.i some, c.before.before.newline.ensures, loop.invariant.1.0), rw (column-more s loop.i some, c.next.ensures, loop.invariant.1.1)),
+      (rw (lines_more s loop.i some, c.before.before.newline.ensures, loop.invariant.1.0), rw (column_more s loop.i some, c.next.ensures, loop.invariant.1.1)),
     )
 
 returns : tie.Need-returns invariant-loop decreases-loop

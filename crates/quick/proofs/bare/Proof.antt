@@ -3,8 +3,8 @@ use Prim.Native.Nat.{◌<◌}
 use native.Mathlib.Omega.{arith}
 use mathlib.Core.Path.{refl}
 use lib.ListN.{length}
-use Rattle.store.specs.Laws.{laid-some}
-use Rattle.quick.specs.Laws.{laid_none, laid-all, mark-comes, longer-comes}
+use Rattle.store.specs.Laws.{laid_some}
+use Rattle.quick.specs.Laws.{laid_none, laid_all, mark_comes, longer_comes}
 use borrow.Author.Rules.{rules}
 use Rattle.quick.proofs.bare.Statement.{statement}
 use Rattle.quick.proofs.bare.Tie as tie
@@ -17,7 +17,7 @@ returns c =
     let at_mark = c.before.before in
     let at-if1 = at_mark.before.before in
     let start = at-if1.before.before.before in
-    mark-comes start.args.rec start.args.out.now _ _ _ _ start.requires.0 start.requires.1 (omega (arith, at-if1.if1.true)) at_mark.mark.ensures
+    mark_comes start.args.rec start.args.out.now _ _ _ _ start.requires.0 start.requires.1 (omega (arith, at-if1.if1.true)) at_mark.mark.ensures
 
 returns-2 : tie.Need-returns-2
 returns-2 c =
@@ -31,9 +31,9 @@ returns-3 c =
     let laid = at-laid.lay-all.ensures in
     let at-if1 = at-laid.before.before in
     let start = at-if1.before.before.before in
-    let some : 0 < length start.args.word.now = laid-some _ _ _ _ start.args.out.now _ laid.0 at_told.l.given.1 in
-    longer-comes start.args.rec start.args.out.now _ _ _ _ start.requires.0 start.requires.1 (λ e. omega (arith, e, some)) (λ e. omega (arith, e, at-if1.if1.false))
-    (laid-all start.args.rec _ _ _ _ _ laid.0 laid.1 _ _ _ _ at_told.l.given.1 refl refl)
+    let some : 0 < length start.args.word.now = laid_some _ _ _ _ start.args.out.now _ laid.0 at_told.l.given.1 in
+    longer_comes start.args.rec start.args.out.now _ _ _ _ start.requires.0 start.requires.1 (λ e. omega (arith, e, some)) (λ e. omega (arith, e, at-if1.if1.false))
+    (laid_all start.args.rec _ _ _ _ _ laid.0 laid.1 _ _ _ _ at_told.l.given.1 refl refl)
 
 pub bare_spec : {M : Type 1} → statement M
 bare_spec =

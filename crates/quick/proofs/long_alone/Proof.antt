@@ -5,7 +5,7 @@ use mathlib.Core.Bool.{not}
 use lib.ListN.{length}
 use borrow.Author.Tests.{not-true, not-false}
 use Rattle.utf8.specs.Plain.{few}
-use Rattle.quick.specs.Laws.{nothing, not-alone, not_plain, over-long, value-comes}
+use Rattle.quick.specs.Laws.{nothing, not_alone, not_plain, over_long, value_comes}
 use borrow.Author.Rules.{rules}
 use Rattle.quick.proofs.long_alone.Statement.{statement}
 use Rattle.quick.proofs.long_alone.Tie as tie
@@ -15,7 +15,7 @@ returns c =
     let start = c.before.before.before in
     let value = start.args.value.now in
     nothing _ start.args.rec start.args.out.now _ _
-    (over-long (not (few value)) start.args.rec (length start.args.out.now) _ value (omega (arith, c.if1.true)))
+    (over_long (not (few value)) start.args.rec (length start.args.out.now) _ value (omega (arith, c.if1.true)))
 
 returns-2 : tie.Need-returns-2
 returns-2 c =
@@ -23,7 +23,7 @@ returns-2 c =
     let start = at-alone.before.before.before.before in
     let value = start.args.value.now in
     nothing _ start.args.rec start.args.out.now _ _
-    (not-alone (not (few value)) start.args.rec (length start.args.out.now) _ value (sym at-alone.alone.ensures ∙ not-true _ c.if2.true))
+    (not_alone (not (few value)) start.args.rec (length start.args.out.now) _ value (sym at-alone.alone.ensures ∙ not-true _ c.if2.true))
 
 returns-3 : tie.Need-returns-3
 returns-3 c =
@@ -43,7 +43,7 @@ returns-4 c =
     let at-if1 = at-alone.before in
     let start = at-if1.before.before.before in
     let value = start.args.value.now in
-    value-comes (not (few value)) start.args.rec start.args.out.now _ value _ _ (sym at-alone.alone.ensures ∙ not-false _ at-if2.if2.false)
+    value_comes (not (few value)) start.args.rec start.args.out.now _ value _ _ (sym at-alone.alone.ensures ∙ not-false _ at-if2.if2.false)
     (sym at_plain.plain-many.ensures ∙ not-false _ at-if3.if3.false) (omega (arith, at-if1.if1.false)) at-laid.value-laid.ensures
 
 pub long-alone-spec : {M : Type 1} → statement M

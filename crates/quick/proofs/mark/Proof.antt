@@ -1,7 +1,7 @@
 -- `quick::mark` meets its contract: its byte is looked up in both sets, and it is laid or nothing is.
 use mathlib.Core.Path.{ap}
 use mathlib.Core.Bool.{Bool, ◌||◌}
-use Rattle.quick.specs.Laws.{laid_none, laid-all}
+use Rattle.quick.specs.Laws.{laid_none, laid_all}
 use borrow.Author.Rules.{rules}
 use Rattle.quick.proofs.mark.Statement.{statement}
 use Rattle.quick.proofs.mark.Tie as tie
@@ -17,7 +17,7 @@ returns-2 c =
     let at-laid = at_told.before.before.before.before in
     let laid = at-laid.lay-all.ensures in
     let start = at-laid.before.before.before.before.before.before.before in
-    laid-all start.args.rec _ _ _ _ _ laid.0 laid.1 _ _ _ _ at_told.l.given.1
+    laid_all start.args.rec _ _ _ _ _ laid.0 laid.1 _ _ _ _ at_told.l.given.1
     (ap (λ (t : Bool). start.args.rec.spaced || t) at-laid.before.before.marked.ensures) c.marked2.ensures
 
 pub mark_spec : {M : Type 1} → statement M

@@ -3,7 +3,7 @@ use mathlib.Core.Path.{sym, ◌∙◌}
 use lib.ListN.{length}
 use borrow.Author.Tests.{not-true, not-false}
 use Rattle.utf8.specs.Plain.{few}
-use Rattle.quick.specs.Laws.{nothing, not-alone, not_plain, few-short, value-comes}
+use Rattle.quick.specs.Laws.{nothing, not_alone, not_plain, few_short, value_comes}
 use borrow.Author.Rules.{rules}
 use Rattle.quick.proofs.value_alone.Statement.{statement}
 use Rattle.quick.proofs.value_alone.Tie as tie
@@ -14,7 +14,7 @@ returns c =
     let start = at-alone.before.before.before in
     let value = start.args.value.now in
     nothing _ start.args.rec start.args.out.now _ _
-    (not-alone (few value) start.args.rec (length start.args.out.now) _ value (sym at-alone.alone.ensures ∙ not-true _ c.if1.true))
+    (not_alone (few value) start.args.rec (length start.args.out.now) _ value (sym at-alone.alone.ensures ∙ not-true _ c.if1.true))
 
 returns-2 : tie.Need-returns-2
 returns-2 c =
@@ -34,7 +34,7 @@ returns-3 c =
     let start = at-alone.before.before.before in
     let value = start.args.value.now in
     let plain = sym at_plain.plain-few.ensures ∙ not-false _ at-if2.if2.false in
-    value-comes (few value) start.args.rec start.args.out.now _ value _ _ (sym at-alone.alone.ensures ∙ not-false _ at-if1.if1.false) plain (few-short value plain)
+    value_comes (few value) start.args.rec start.args.out.now _ value _ _ (sym at-alone.alone.ensures ∙ not-false _ at-if1.if1.false) plain (few_short value plain)
     at-laid.value-laid.ensures
 
 pub value-alone-spec : {M : Type 1} → statement M

@@ -3,7 +3,7 @@ use native.Mathlib.Omega.{arith}
 use mathlib.Core.Path.{refl}
 use lib.ListN.{length}
 use Rattle.store.specs.Laws as store
-use Rattle.quick.specs.Laws.{nothing, laid_none, laid-all}
+use Rattle.quick.specs.Laws.{nothing, laid_none, laid_all}
 use borrow.Author.Rules.{rules}
 use Rattle.quick.proofs.value_laid.Statement.{statement}
 use Rattle.quick.proofs.value_laid.Tie as tie
@@ -26,7 +26,7 @@ returns-3 c =
     let at-laid = at_told.before.before.before.before in
     let laid = at-laid.lay-all.ensures in
     let start = at-laid.before.before.before.before.before in
-    laid-all start.args.rec _ _ _ _ _ laid.0 laid.1 _ _ _ _ at_told.l.given.1 refl c.all-blank.ensures
+    laid_all start.args.rec _ _ _ _ _ laid.0 laid.1 _ _ _ _ at_told.l.given.1 refl c.all-blank.ensures
 
 pub value-laid-spec : {M : Type 1} → statement M
 value-laid-spec =

@@ -4,8 +4,8 @@ use mathlib.Core.Path.{sym, ◌∙◌}
 use lib.ListN.{length}
 use lib.Seq.{length-take-le}
 use Rattle.words.specs.Words.{begins, within}
-use Rattle.append.specs.Laws.{word-is}
-use Rattle.quick.specs.Laws.{nothing, with_value, word-comes}
+use Rattle.append.specs.Laws.{word_is}
+use Rattle.quick.specs.Laws.{nothing, with_value, word_comes}
 use borrow.Author.Rules.{rules}
 use Rattle.quick.proofs.word_alone.Statement.{statement}
 use Rattle.quick.proofs.word_alone.Tie as tie
@@ -33,7 +33,7 @@ bare-requires c κs =
     let at-number-of = at_of.before in
     let at-if1 = at-number-of.before in
     let word = at_of.of in (
-      word-is _ _ _ at-number-of.number_of_lem.ensures (begins _ _ word.result.bytes word.ensures.0 word.ensures.1),
+      word_is _ _ _ at-number-of.number_of_lem.ensures (begins _ _ word.result.bytes word.ensures.0 word.ensures.1),
       sym at-if1.before.present.ensures ∙ at-if1.if1.false,
     )
 
@@ -45,8 +45,8 @@ returns-2 c =
     let at-if1 = at-number-of.before in
     let start = at-if1.before.before.before in
     let word = at_of.of in
-    word-comes start.args.rec start.args.out.now _ _ _ _
-    (word-is _ _ _ at-number-of.number_of_lem.ensures (begins _ _ word.result.bytes word.ensures.0 word.ensures.1))
+    word_comes start.args.rec start.args.out.now _ _ _ _
+    (word_is _ _ _ at-number-of.number_of_lem.ensures (begins _ _ word.result.bytes word.ensures.0 word.ensures.1))
     (sym at-if1.before.present.ensures ∙ at-if1.if1.false) at_bare.bare.ensures
 
 pub word-alone-spec : {M : Type 1} → statement M

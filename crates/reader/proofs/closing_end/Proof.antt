@@ -6,7 +6,7 @@ use lib.ListN.{length, drop}
 use borrow.Author.Rules.{rules}
 use Rattle.reading.specs.Reading.{closing}
 use Rattle.reader.specs.Places.{past}
-use Rattle.reader.specs.Laws.{closing-on, closing-twice, closing-once, closing-at-end, closing-never}
+use Rattle.reader.specs.Laws.{closing_on, closing_twice, closing_once, closing_at_end, closing_never}
 use Rattle.reader.proofs.closing_end.Statement.{statement}
 use Rattle.reader.proofs.closing_end.Tie as tie
 
@@ -22,28 +22,28 @@ loop-holds c = (c.requires, refl)
 loop-again : tie.Need-loop-preserved invariant-loop decreases-loop
 loop-again c =
     let loop = c.before.before.before.loop in
-    (search rules, loop.invariant.1 ∙ closing-on _ _ loop.i c.before.before.loop-test.true c.if1.true)
+    (search rules, loop.invariant.1 ∙ closing_on _ _ loop.i c.before.before.loop-test.true c.if1.true)
 
 returns : tie.Need-returns invariant-loop decreases-loop
 returns c =
     let loop = c.before.before.before.before.loop in
     let last = c.if2.true in
-    sym (loop.invariant.1 ∙ closing-at-end _ _ loop.i c.before.before.before.loop-test.true (omega arith) c.before.if1.false)
+    sym (loop.invariant.1 ∙ closing_at_end _ _ loop.i c.before.before.before.loop-test.true (omega arith) c.before.if1.false)
 
 returns-2 : tie.Need-returns-2 invariant-loop decreases-loop
 returns-2 c =
     let loop = c.before.before.before.before.before.before.loop in
     let more = c.before.before.if2.false in
-    sym (loop.invariant.1 ∙ closing-once _ _ loop.i (omega arith) c.before.before.before.if1.false c.if3.true)
+    sym (loop.invariant.1 ∙ closing_once _ _ loop.i (omega arith) c.before.before.before.if1.false c.if3.true)
 
 loop-again-2 : tie.Need-loop-preserved-2 invariant-loop decreases-loop
 loop-again-2 c =
     let loop = c.before.before.before.before.before.before.loop in
     let more = c.before.before.if2.false in
-    (omega arith, loop.invariant.1 ∙ closing-twice _ _ loop.i (omega arith) c.before.before.before.if1.false c.if3.false)
+    (omega arith, loop.invariant.1 ∙ closing_twice _ _ loop.i (omega arith) c.before.before.before.if1.false c.if3.false)
 
 returns-3 : tie.Need-returns-3 invariant-loop decreases-loop
-returns-3 c = let loop = c.before.loop in sym (loop.invariant.1 ∙ closing-never _ _ loop.i c.loop-test.false)
+returns-3 c = let loop = c.before.loop in sym (loop.invariant.1 ∙ closing_never _ _ loop.i c.loop-test.false)
 
 pub closing-end-spec : {M : Type 1} → statement M
 closing-end-spec =

@@ -6,7 +6,7 @@ use borrow.Author.Rules.{rules}
 use Rattle.reading.specs.Bytes.{apostrophe}
 use Rattle.reading.specs.Reading.{through}
 use Rattle.reader.specs.Places.{past}
-use Rattle.reader.specs.Laws.{through-on, through_here, through-never}
+use Rattle.reader.specs.Laws.{through_on, through_here, through_never}
 use Rattle.reader.proofs.through_end.Statement.{statement}
 use Rattle.reader.proofs.through_end.Tie as tie
 
@@ -27,10 +27,10 @@ returns c =
 loop-again : tie.Need-loop-preserved invariant-loop decreases-loop
 loop-again c =
     let loop = c.before.before.before.loop in
-    (search rules, loop.invariant.1 ∙ through-on _ loop.i c.before.before.loop-test.true c.if1.false)
+    (search rules, loop.invariant.1 ∙ through_on _ loop.i c.before.before.loop-test.true c.if1.false)
 
 returns-2 : tie.Need-returns-2 invariant-loop decreases-loop
-returns-2 c = let loop = c.before.loop in sym (loop.invariant.1 ∙ through-never _ loop.i c.loop-test.false)
+returns-2 c = let loop = c.before.loop in sym (loop.invariant.1 ∙ through_never _ loop.i c.loop-test.false)
 
 pub through-end-spec : {M : Type 1} → statement M
 through-end-spec =

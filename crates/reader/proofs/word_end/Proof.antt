@@ -4,15 +4,15 @@ use mathlib.Core.Path.{◌≡◌, refl, sym, ◌∙◌}
 use lib.ListN.{length, drop}
 use borrow.Author.Rules.{rules}
 use borrow.Author.Tests.{not-true, not-false}
-use Rattle.reading.specs.Bytes.{wordByte}
+use Rattle.reading.specs.Bytes.{word_byte}
 use Rattle.reading.specs.Number.{takes}
 use Rattle.reader.specs.Places.{past}
-use Rattle.reader.specs.Laws.{takes-on, takes-off, takes-end}
+use Rattle.reader.specs.Laws.{takes_on, takes_off, takes_end}
 use Rattle.reader.proofs.word_end.Statement.{statement}
 use Rattle.reader.proofs.word_end.Tie as tie
 
 abbrev invariant-loop : tie.invariant-loop
-invariant-loop text at i₀ i = (i ≤ length text) × (past at (takes wordByte (drop at text)) ≡ past i (takes wordByte (drop i text)))
+invariant-loop text at i₀ i = (i ≤ length text) × (past at (takes word_byte (drop at text)) ≡ past i (takes word_byte (drop i text)))
 
 abbrev decreases-loop : tie.decreases-loop
 decreases-loop text at i₀ i = length text - i
@@ -24,16 +24,16 @@ returns : tie.Need-returns invariant-loop decreases-loop
 returns c =
     let loop = c.before.before.before.before.loop in
     let off = sym c.before.word_byte.ensures ∙ not-true _ c.if1.true in
-    sym (loop.invariant.1 ∙ takes-off wordByte _ loop.i c.before.before.before.loop-test.true off)
+    sym (loop.invariant.1 ∙ takes_off word_byte _ loop.i c.before.before.before.loop-test.true off)
 
 loop-again : tie.Need-loop-preserved invariant-loop decreases-loop
 loop-again c =
     let loop = c.before.before.before.before.loop in
     let on = sym c.before.word_byte.ensures ∙ not-false _ c.if1.false in
-    (search rules, loop.invariant.1 ∙ takes-on wordByte _ loop.i c.before.before.before.loop-test.true on)
+    (search rules, loop.invariant.1 ∙ takes_on word_byte _ loop.i c.before.before.before.loop-test.true on)
 
 returns-2 : tie.Need-returns-2 invariant-loop decreases-loop
-returns-2 c = let loop = c.before.loop in sym (loop.invariant.1 ∙ takes-end wordByte _ loop.i c.loop-test.false)
+returns-2 c = let loop = c.before.loop in sym (loop.invariant.1 ∙ takes_end word_byte _ loop.i c.loop-test.false)
 
 pub word-end-spec : {M : Type 1} → statement M
 word-end-spec =

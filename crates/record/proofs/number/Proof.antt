@@ -1,17 +1,17 @@
 -- `record::number` meets its contract: the bits below the sign bit are the number, and others stand for one below 0.
 use native.Mathlib.Omega.{arith}
 use Rattle.record.specs.Record.{number_of}
-use Rattle.record.proofs.Signed.{low-is, less-fits, high_is}
+use Rattle.record.proofs.Signed.{low_is, less_fits, high_is}
 use borrow.Author.Rules.{rules}
 use Rattle.record.proofs.number.Statement.{statement}
 use Rattle.record.proofs.number.Tie as tie
 
 returns : tie.Need-returns
 unfolding number_of
-returns c = low-is _ c.if1.true
+returns c = low_is _ c.if1.true
 
 sub-result-2 : tie.Need-overflow-sub-result-2
-sub-result-2 c = less-fits _ c.if1.false (omega arith)
+sub-result-2 c = less_fits _ c.if1.false (omega arith)
 
 returns-2 : tie.Need-returns-2
 unfolding number_of

@@ -1,7 +1,7 @@
 -- `render::measure` meets its contract: the check's refusal, or the length, which is short.
 use native.Mathlib.Omega.{arith}
 use borrow.Author.Rules.{rules}
-use Rattle.render.specs.Laws.{refused, measured-all}
+use Rattle.render.specs.Laws.{refused, measured_all}
 use Rattle.render.proofs.measure.Statement.{statement}
 use Rattle.render.proofs.measure.Tie as tie
 
@@ -14,7 +14,7 @@ returns-2 c =
     let at-number = c.before.before.before.before.before.before.number in
     let at-check = c.before.before.before.before.before.before.before.check in
     let at-bytes = c.before.before.before.before.before.before.before.before.before.shared-slice-known in
-    measured-all at-check.ensures _ at-number.ensures at-if1.false (λ k. omega (arith, at-bytes.given k)) _ c.before.write.ensures.counts
+    measured_all at-check.ensures _ at-number.ensures at-if1.false (λ k. omega (arith, at-bytes.given k)) _ c.before.write.ensures.counts
 
 pub measure-spec : {M : Type 1} → statement M
 measure-spec =

@@ -3,7 +3,7 @@ use mathlib.Core.Path.{◌≡◌}
 use native.Mathlib.Omega.{arith}
 use Prim.Native.Nat.{ℕ}
 use borrow.Author.Rules.{rules}
-use Rattle.render.specs.Laws.{refused, measured-all, drafted, kept, no_room, length-is, written}
+use Rattle.render.specs.Laws.{refused, measured_all, drafted, kept, no_room, length_is, written}
 use Rattle.render.proofs.render_checked.Statement.{statement}
 use Rattle.render.proofs.render_checked.Tie as tie
 
@@ -19,7 +19,7 @@ returns-2 c =
     let at-number = c.before.before.before.before.before.number in
     let at-bytes = c.before.before.before.before.before.before.before.shared-slice-known2 in
     let at_pre = c.before.before.before.before.before.before.before.before.before.before.requires in
-    no_room _ (measured-all at_pre.1 _ at-number.ensures at-if1.false (λ k. omega (arith, at-bytes.given k)) _ at-write.ensures.counts) c.if2.true
+    no_room _ (measured_all at_pre.1 _ at-number.ensures at-if1.false (λ k. omega (arith, at-bytes.given k)) _ at-write.ensures.counts) c.if2.true
 
 fair-copy-requires : tie.Need-fair-copy-requires
 fair-copy-requires c κs =
@@ -30,8 +30,8 @@ fair-copy-requires c κs =
     let at-bytes = c.before.before.before.before.before.before.before.before.before.shared-slice-known2 in
     let at-args = c.before.before.before.before.before.before.before.before.before.before.before.before.args in
     let at_pre = c.before.before.before.before.before.before.before.before.before.before.before.before.requires in
-    let done = measured-all at_pre.1 _ at-number.ensures at-if1.false (λ k. omega (arith, at-bytes.given k)) _ at-write.ensures.counts in
-    (at_pre.0, (length-is at-args.out.now done, (at-if2.false, drafted _ _ _ _ _ at-write.ensures.stores)))
+    let done = measured_all at_pre.1 _ at-number.ensures at-if1.false (λ k. omega (arith, at-bytes.given k)) _ at-write.ensures.counts in
+    (at_pre.0, (length_is at-args.out.now done, (at-if2.false, drafted _ _ _ _ _ at-write.ensures.stores)))
 
 returns-3 : tie.Need-returns-3
 returns-3 c =
@@ -42,7 +42,7 @@ returns-3 c =
     let at-number = c.before.before.before.before.before.before.before.before.before.before.number in
     let at-bytes = c.before.before.before.before.before.before.before.before.before.before.before.before.shared-slice-known2 in
     let at_pre = c.before.before.before.before.before.before.before.before.before.before.before.before.before.before.before.requires in
-    written _ (measured-all at_pre.1 _ at-number.ensures at-if1.false (λ k. omega (arith, at-bytes.given k)) _ at-write.ensures.counts)
+    written _ (measured_all at_pre.1 _ at-number.ensures at-if1.false (λ k. omega (arith, at-bytes.given k)) _ at-write.ensures.counts)
     at-if2.false at-fair-copy.ensures
 
 pub render-checked-spec : {M : Type 1} → statement M

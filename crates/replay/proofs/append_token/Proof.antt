@@ -1,12 +1,12 @@
 -- `replay::append_token` meets its contract: bytes that were added had room, by `append`'s own contract.
 use native.Mathlib.Omega.{arith}
-use Rattle.replay.specs.Laws.{had-room}
+use Rattle.replay.specs.Laws.{had_room}
 use borrow.Author.Rules.{rules}
 use Rattle.replay.proofs.append_token.Statement.{statement}
 use Rattle.replay.proofs.append_token.Tie as tie
 
 returns : tie.Need-returns
-returns c = omega (arith, had-room _ _ _ _ _ _ _ _ c.before.before.before.lent.ensures c.enum_told.given.1)
+returns c = omega (arith, had_room _ _ _ _ _ _ _ _ c.before.before.before.lent.ensures c.enum_told.given.1)
 
 pub append-token-spec : {M : Type 1} → statement M
 append-token-spec =

@@ -97,9 +97,9 @@ module _ {M : Type 1} {𝓤 : Ura M} (𝓛 : Logic 𝓤) (js : List Job) (l : �
       use1 𝓛 (‵ ((arr_parts (shares T.the_row) most).part full_share js l 0)) (Array-apart 𝓛 T.the_row full_share tt most js l 0) $ fsplit ! $ drop ! $
       rewrite ! 0 (λ (F : Fml). ‵ F) (parts-cells T.the_row full_share js l 0) refl $ done !
 
-  comes-out : length js ≡ most → ent 𝓤 (sem 𝓛 (cells (mem T.the_row) js l 0)) (guard 𝓤 (Is Row js (mach js ∷ [])) (sem 𝓛 cell))
+  comes_out : length js ≡ most → ent 𝓤 (sem 𝓛 (cells (mem T.the_row) js l 0)) (guard 𝓤 (Is Row js (mach js ∷ [])) (sem 𝓛 cell))
   unfolding part_of
-  comes-out size =
+  comes_out size =
       qed 𝓛 (‵ (cells (mem T.the_row) js l 0) ∷ []) ∵ rewrite ! 0 (λ (F : Fml). ‵ F) (sym (parts-cells T.the_row full_share js l 0)) refl $
       feq_i ! ℕ (length js) most size $ fjoin ! $ use1 𝓛 (‵ (part_at Row full_share js l 0)) (Array-whole 𝓛 T.the_row full_share most js l 0) $ fpick ! (λ vs. fsplit ! $ move ! (1 ∷ []) $
       peeks ! Row (Is Row) (shows 𝓛 Row) js vs (λ is. drop ! $ rewrite ! 0 (λ (us : List Val). ‵ (cell_at full_share Row.mir us l 0)) (told js vs is) refl $
@@ -209,7 +209,7 @@ module _ {M : Type 1} {𝓤 : Ura M} (𝓛 : Logic 𝓤) (at_mem : Memory → SP
         land ! (slot !) (init ! 15 refl ((uint_Lawful 𝓛 w64).typed n _ is).0) $ rewrite ! 15 (λ (u : Val). ‵ (fat full_share (ty_int w64) l₇ 0 u)) (ap only (uint_Tells w64 n (w ∷ []) is)) refl $ drop ! $
         -- the lifetime is ended, and the array taken back
         split ! $ lft_end ! tt $ move ! (0 ∷ 6 ∷ 3 ∷ []) $ use3 𝓛 (later (‵ ((Arr (mem T.the_row) (length xs)).own_at last.1.0 l₆ 0))) (slice_back 𝓛 T.the_row (α ∷ []) γ last.1.0 (length xs) l₆ 0) $ await ! tt $ fsplit ! $ drop ! $
-        use1 𝓛 (given (Is Row last.1.0 (mach last.1.0 ∷ [])) (‵ (cell 𝓛 last.1.0 l₆))) (comes-out 𝓛 last.1.0 l₆ (same ∙ size)) $ learn ! (λ left.
+        use1 𝓛 (given (Is Row last.1.0 (mach last.1.0 ∷ [])) (‵ (cell 𝓛 last.1.0 l₆))) (comes_out 𝓛 last.1.0 l₆ (same ∙ size)) $ learn ! (λ left.
         -- [the array; the tokens; out's last bytes; text's; trees'; the other locals]
         assigns ! (of_opd ! (val ! 0 refl)) (slot !) (init ! 26 refl ((Array-Lawful 𝓛 T.the_row (LL.lawful T.the_type T'.the_laws 𝓛) most).typed last.1.0 _ left).0) $ returns ! (look ! 26 refl) $
         move ! (26 ∷ 27 ∷ 24 ∷ 25 ∷ 22 ∷ 23 ∷ 20 ∷ 21 ∷ 18 ∷ 19 ∷ 16 ∷ 17 ∷ 0 ∷ 15 ∷ 13 ∷ 14 ∷ 11 ∷ 12 ∷ 9 ∷ 10 ∷ 7 ∷ 8 ∷ 5 ∷ 6 ∷ []) $

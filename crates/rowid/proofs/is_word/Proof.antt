@@ -4,13 +4,13 @@ use mathlib.Core.Path.{◌≡◌, refl}
 use native.Mathlib.Omega.{arith}
 use lib.ListN.{length, drop}
 use borrow.Author.Rules.{rules}
-use Rattle.rowid.specs.Rowid.{isWord}
+use Rattle.rowid.specs.Rowid.{is_word}
 use Rattle.rowid.proofs.Words.{other_length, other_byte, same_byte, all_same}
 use Rattle.rowid.proofs.is_word.Statement.{statement}
 use Rattle.rowid.proofs.is_word.Tie as tie
 
 abbrev invariant-loop : tie.invariant-loop
-invariant-loop bytes word i₀ i = (i ≤ length bytes) × (length bytes ≡ length word) × (isWord (drop i bytes) (drop i word) ≡ isWord bytes word)
+invariant-loop bytes word i₀ i = (i ≤ length bytes) × (length bytes ≡ length word) × (is_word (drop i bytes) (drop i word) ≡ is_word bytes word)
 
 abbrev decreases-loop : tie.decreases-loop
 decreases-loop bytes word i₀ i = length bytes - i

@@ -1,19 +1,19 @@
 -- `rowid::names` meets its contract: the count tells whether there are two parts, and each call says of one of them what the definition asks.
 use borrow.Author.Rules.{rules}
-use Rattle.rowid.proofs.Two.{not-two, first-within, second-within, two}
+use Rattle.rowid.proofs.Two.{not_two, first_within, second_within, two}
 use Rattle.rowid.proofs.names.Statement.{statement}
 use Rattle.rowid.proofs.names.Tie as tie
 
 returns : tie.Need-returns
-returns c = not-two _ _ c.before.before.split.ensures c.if1.true
+returns c = not_two _ _ c.before.before.split.ensures c.if1.true
 
 part-is-requires : tie.Need-part-is-requires
-part-is-requires c κs = first-within _ _ c.before.first_part.ensures
+part-is-requires c κs = first_within _ _ c.before.first_part.ensures
 
 part-is-requires-2 : tie.Need-part-is-requires-2
 part-is-requires-2 c κs =
     let split = c.before.before.before.before.before.before.split in
-    second-within _ _ split.ensures
+    second_within _ _ split.ensures
 
 returns-2 : tie.Need-returns-2
 returns-2 c =

@@ -1,11 +1,11 @@
 -- `rowid::upper` meets its contract: it goes by the definition's test.
 use native.Mathlib.Omega.{arith}
-use Rattle.rowid.proofs.Words.{has-capital}
+use Rattle.rowid.proofs.Words.{has_capital}
 use Rattle.rowid.proofs.upper.Statement.{statement}
 use Rattle.rowid.proofs.upper.Tie as tie
 
 sub-result : tie.Need-overflow-sub-result
-sub-result c = omega (arith, has-capital c.before.args.b c.if1.true)
+sub-result c = omega (arith, has_capital c.before.args.b c.if1.true)
 
 returns : tie.Need-returns
 returns c = rw c.if1.true

@@ -9,8 +9,8 @@ use mathlib.Core.List.{map}
 use mathlib.Core.Logic.{⊎_elim}
 use Rattle.grammar.specs.Packed.{along}
 use Rattle.tree.specs.Check.{place}
-use Rattle.tree.specs.Steps.{along-none}
-use Rattle.rules.specs.Walk.{Rules, Going, start, ends, turn_inside, turn-left, turn-led, turn-breaks, turn-found, turn_on, walked-below, none_below, more-below}
+use Rattle.tree.specs.Steps.{along_none}
+use Rattle.rules.specs.Walk.{Rules, Going, start, ends, turn_inside, turn_left, turn_led, turn_breaks, turn_found, turn_on, walked_below, none_below, more_below}
 use borrow.Fn.Kinds.{In}
 use borrow.Fn.PlainCycle.{Measures, is, falls, and}
 use Rattle.rules.proofs.rule_row.Reads as rule-row
@@ -64,7 +64,7 @@ rule-row-met t =
     let at-if1 = c.before.before.before.if1 in
     let at-loop-test = c.before.before.before.before.loop-test in
     let at-loop = c.before.before.before.before.before.loop in
-    λ p r. turn-breaks (at-loop.invariant p r) at-loop-test.true at-if1.false _ (rw at_read.ensures at c.before.rule-fault.ensures) c.if2.true)
+    λ p r. turn_breaks (at-loop.invariant p r) at-loop-test.true at-if1.false _ (rw at_read.ensures at c.before.rule-fault.ensures) c.if2.true)
     (λ c.  -- add-next
     search rules)
     (λ c κs.  -- rules-of-requires
@@ -77,8 +77,8 @@ rule-row-met t =
     let at-loop = c.before.before.before.before.before.before.before.before.loop in
     let at-start = c.before.before.before.before.before.before.before.before.before.before.before in
     let led = at-start.requires.1.1 in
-    let more = more-below at_read.result.kids (at-loop.next + 1) at-start.args.end at-if3.true in
-    turn-left (at-loop.invariant led.row led.rules) at-loop-test.true at-if1.false led.rest led.reached more at-start.requires.1.0)
+    let more = more_below at_read.result.kids (at-loop.next + 1) at-start.args.end at-if3.true in
+    turn_left (at-loop.invariant led.row led.rules) at-loop-test.true at-if1.false led.rest led.reached more at-start.requires.1.0)
     (λ c κs.  -- rule-row-requires
     let at-if3 = c.before.if3 in
     let at_read = c.before.before.before.before.before.read in
@@ -88,12 +88,12 @@ rule-row-met t =
     let at-start = c.before.before.before.before.before.before.before.before.before.before.before in
     let led = at-start.requires.1.1 in
     let going = at-loop.invariant led.row led.rules in
-    let more = more-below at_read.result.kids (at-loop.next + 1) at-start.args.end at-if3.true in
-    let l = turn-left going at-loop-test.true at-if1.false led.rest led.reached more at-start.requires.1.0 in (
+    let more = more_below at_read.result.kids (at-loop.next + 1) at-start.args.end at-if3.true in
+    let l = turn_left going at-loop-test.true at-if1.false led.rest led.reached more at-start.requires.1.0 in (
       omega (arith, at-start.requires.0),
       (
         omega (arith, at-start.requires.1.0),
-        rw (c.rules-of.ensures, at_read.ensures) (turn-led going at-loop-test.true at-if1.false led.rest led.reached more at-start.requires.1.0),
+        rw (c.rules-of.ensures, at_read.ensures) (turn_led going at-loop-test.true at-if1.false led.rest led.reached more at-start.requires.1.0),
       ),
     ))
     (λ c.  -- returns-3
@@ -108,11 +108,11 @@ rule-row-met t =
     let at-loop = c.before.before.before.before.before.before.before.before.before.before.before.loop in
     let at-start = c.before.before.before.before.before.before.before.before.before.before.before.before.before.before in
     let led = at-start.requires.1.1 in
-    let more = more-below at_read.result.kids (at-loop.next + 1) at-start.args.end at-if3.true in
-    let l = turn-left (at-loop.invariant led.row led.rules) at-loop-test.true at-if1.false led.rest led.reached more at-start.requires.1.0 in
+    let more = more_below at_read.result.kids (at-loop.next + 1) at-start.args.end at-if3.true in
+    let l = turn_left (at-loop.invariant led.row led.rules) at-loop-test.true at-if1.false led.rest led.reached more at-start.requires.1.0 in
     λ p r.
-    turn-found (at-loop.invariant p r) at-loop-test.true at-if1.false _ (rw at_read.ensures at at-fault.ensures) at-if2.false
-    (walked-below (at-loop.invariant p r) at-loop-test.true at-if1.false l at-start.requires.1.0 (rw (at-rules.ensures, at_read.ensures) at at-found.ensures))
+    turn_found (at-loop.invariant p r) at-loop-test.true at-if1.false _ (rw at_read.ensures at at-fault.ensures) at-if2.false
+    (walked_below (at-loop.invariant p r) at-loop-test.true at-if1.false l at-start.requires.1.0 (rw (at-rules.ensures, at_read.ensures) at at-found.ensures))
     c.if4.true)
     (λ c.  -- sub-rest
     search rules)
@@ -133,16 +133,16 @@ rule-row-met t =
     λ p r.
     ⊎_elim
     (λ w.
-    let more = more-below at_read.result.kids (at-loop.next + 1) at-start.args.end w.0.taken in
-    let l = turn-left (at-loop.invariant led.row led.rules) some h led.rest led.reached more at-start.requires.1.0 in
+    let more = more_below at_read.result.kids (at-loop.next + 1) at-start.args.end w.0.taken in
+    let l = turn_left (at-loop.invariant led.row led.rules) some h led.rest led.reached more at-start.requires.1.0 in
     rw w.5
     (turn_on (at-loop.invariant p r) some h _ fe at-if2.false
-    (walked-below (at-loop.invariant p r) some h l at-start.requires.1.0 (rw (w.1.ensures, at_read.ensures) at w.2.ensures)) w.4.left))
+    (walked_below (at-loop.invariant p r) some h l at-start.requires.1.0 (rw (w.1.ensures, at_read.ensures) at w.2.ensures)) w.4.left))
     (λ w. rw w.1 (turn_on (at-loop.invariant p r) some h _ fe at-if2.false (none_below (at-loop.invariant p r) some h (rw at_read.ensures at w.0.left)) refl))
     c.if3.branch)
     (λ c.  -- returns-4
     let at-loop = c.before.loop in
-    λ p r. rw (along-none _ _ c.loop-test.false) at (at-loop.invariant p r).goes)
+    λ p r. rw (along_none _ _ c.loop-test.false) at (at-loop.invariant p r).goes)
 
 pub +rule-row-spec : {M : Type 1} → statement M
 +rule-row-spec = close μ-rule-row rule-row-met

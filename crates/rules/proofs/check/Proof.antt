@@ -10,7 +10,7 @@ in-mode-requires c κs = record { encoding = c.check.ensures.encoding; answers =
 returns : tie.Need-returns
 returns c =
     let at-check = c.before.check in
-    record { encoding = at-check.ensures.encoding; encoded = at-check.ensures.encoded; answers = c.in-mode.ensures _ at-check.ensures.answers }
+    record { encoding = at-check.ensures.encoding; encoded = at-check.ensures.encoded; answers = c.in_mode.ensures _ at-check.ensures.answers }
 
 pub check-spec : {M : Type 1} → statement M
 check-spec = tie.close (tie.spec (λ c κs. search rules) in-mode-requires returns)

@@ -7,7 +7,7 @@ in-mode-requires : tie.Need-in-mode-requires
 in-mode-requires c κs = record { encoding = _; answers = c.check-told.ensures }
 
 returns : tie.Need-returns
-returns c = c.in-mode.ensures _ c.before.check-told.ensures
+returns c = c.in_mode.ensures _ c.before.check-told.ensures
 
 pub check-told-spec : {M : Type 1} → statement M
 check-told-spec = tie.close (tie.spec (λ c κs. search rules) in-mode-requires returns)

@@ -1,4 +1,4 @@
--- `rules::keeps` meets its contract: of a source it asks how it ends, and of a without-rowid text what it names.
+-- `rules::keeps` meets its contract: of a source it asks how it ends, and of a without_rowid_lem text what it names.
 use borrow.Author.Tests.{eq-eqb, ne_eqb}
 use Rattle.rules.specs.Rules.{keeps}
 use borrow.Author.Rules.{rules}

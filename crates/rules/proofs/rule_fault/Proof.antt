@@ -2,7 +2,7 @@
 use Prim.Native.Nat.{◌+◌, ◌-◌}
 use native.Mathlib.Omega.{arith}
 use mathlib.Core.Path.{◌≡◌}
-use Rattle.rules.specs.Rules.{not-in-force, no_text, part-ends, kept, unclosed, not-rowid}
+use Rattle.rules.specs.Rules.{not_in_force, no_text, part_ends, kept, unclosed, not_rowid}
 use borrow.Author.Rules.{rules}
 use Rattle.rules.proofs.rule_fault.Statement.{statement}
 use Rattle.rules.proofs.rule_fault.Tie as tie
@@ -10,7 +10,7 @@ use Rattle.rules.proofs.rule_fault.Tie as tie
 returns : tie.Need-returns
 returns c =
     let at-args = c.before.before.before.args in
-    not-in-force at-args.mode at-args.text.now at-args.rule at-args.r _ c.before.in-force.ensures c.if1.true
+    not_in_force at-args.mode at-args.text.now at-args.rule at-args.r _ c.before.in-force.ensures c.if1.true
 
 returns-2 : tie.Need-returns-2
 returns-2 c =
@@ -20,7 +20,7 @@ returns-2 c =
 part-keeps-end : tie.Need-slice-bounds-keeps-end
 part-keeps-end c =
     let at-start = c.before.before.before.before.before.before.before in
-    part-ends at-start.args.mode at-start.args.text.now at-start.args.rule at-start.args.r c.before.before.if2.false at-start.requires
+    part_ends at-start.args.mode at-start.args.text.now at-start.args.rule at-start.args.r c.before.before.if2.false at-start.requires
 
 returns-3 : tie.Need-returns-3
 returns-3 c =
@@ -50,7 +50,7 @@ returns-5 c =
     let at-in-force = at-if1.before in
     let at-args = at-in-force.before.before.args in
     let z : at-args.r.start + at-args.r.len - at-args.r.start ≡ at-args.r.len = omega arith in
-    not-rowid at-args.mode at-args.text.now at-args.rule at-args.r _ at-in-force.in-force.ensures at-if1.if1.false at-if2.if2.false _ (rw z at at-keeps.keeps.ensures) c.before.if3.false c.if4.false
+    not_rowid at-args.mode at-args.text.now at-args.rule at-args.r _ at-in-force.in-force.ensures at-if1.if1.false at-if2.if2.false _ (rw z at at-keeps.keeps.ensures) c.before.if3.false c.if4.false
 
 pub rule-fault-spec : {M : Type 1} → statement M
 rule-fault-spec =

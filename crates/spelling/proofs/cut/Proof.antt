@@ -1,7 +1,7 @@
 -- `spelling::cut` meets its contract: the part of the pool that the row says, or nothing.
 use mathlib.Core.Path.{refl}
 use borrow.Author.Rules.{rules}
-use Rattle.spelling.specs.Laws.{no_part, part-by-row}
+use Rattle.spelling.specs.Laws.{no_part, part_by_row}
 use Rattle.spelling.proofs.cut.Statement.{statement}
 use Rattle.spelling.proofs.cut.Tie as tie
 
@@ -13,7 +13,7 @@ returns c =
 returns-2 : tie.Need-returns-2
 returns-2 c =
     let at-args = c.before.before.args in
-    part-by-row at-args.pool.now _ _ refl c.before.if1.false
+    part_by_row at-args.pool.now _ _ refl c.before.if1.false
 
 pub cut_spec : {M : Type 1} → statement M
 cut_spec =

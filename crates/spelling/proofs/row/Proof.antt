@@ -3,8 +3,8 @@ use mathlib.Core.Path.{◌≡◌, sym, ap}
 use Prim.Native.Nat.{ℕ}
 use Rattle.laws.specs.Apart.{apart}
 use Rattle.spelling.specs.Rows.{rows}
-use Rattle.spelling.specs.Table.{rowsHeld, row_of}
-use Rattle.spelling.specs.Laws.{row-none}
+use Rattle.spelling.specs.Table.{rows_held, row_of}
+use Rattle.spelling.specs.Laws.{row_none}
 use Rattle.spelling.proofs.row.Statement.{statement}
 use Rattle.spelling.proofs.row.Tie as tie
 
@@ -12,7 +12,7 @@ line : {n k : ℕ} → n ≡ k → row_of k ≡ row_of n
 line e = sym (ap row_of e)
 
 no_row : tie.Need-returns-195
-no_row c = sym (row-none _ (apart rowsHeld _ c.match.rest))
+no_row c = sym (row_none _ (apart rows_held _ c.match.rest))
 
 pub row-spec : {M : Type 1} → statement M
 unfolding row_of rows

@@ -5,7 +5,7 @@ use borrow.Author.Tests.{ne_eqb}
 use Rattle.grammar.specs.Grammar.{shape}
 use Rattle.grammar.specs.Kind.{AlterTable, Analyze, Attach, Begin, Commit, CreateIndex, CreateTable, CreateTrigger, CreateView, CreateMaterializedView, CreateVirtualTable}
 use Rattle.pen.specs.Laws.{in_one}
-use Rattle.pen.specs.Places.{shallow, other, node-on, optional-last}
+use Rattle.pen.specs.Places.{shallow, other, node_on, optional_last}
 use native.Mathlib.Omega.{arith}
 use Rattle.stmt.proofs.stmt_to_create_virtual_table.Statement.{statement}
 use Rattle.stmt.proofs.stmt_to_create_virtual_table.Tie as tie
@@ -25,7 +25,7 @@ returns-2 c r =
     let at-pass = at-if2.before.before.before.before.before in
     let at-if1 = at-pass.before in
     let at_read = at-if1.before in
-    node-on at_read.read.ensures AlterTable at-if2.if2.true refl at-if1.if1.false at-pass.pass.ensures (in_one (at-alter-table.alter-table.ensures _))
+    node_on at_read.read.ensures AlterTable at-if2.if2.true refl at-if1.if1.false at-pass.pass.ensures (in_one (at-alter-table.alter-table.ensures _))
 
 returns-3 : tie.Need-returns-3
 unfolding shape
@@ -35,7 +35,7 @@ returns-3 c r =
     let at-pass = at-if3.before.before.before.before.before.before.before in
     let at-if1 = at-pass.before in
     let at_read = at-if1.before in
-    node-on at_read.read.ensures Analyze at-if3.if3.true refl at-if1.if1.false at-pass.pass.ensures (in_one (optional-last (at-word-run.word-run.ensures _ _)))
+    node_on at_read.read.ensures Analyze at-if3.if3.true refl at-if1.if1.false at-pass.pass.ensures (in_one (optional_last (at-word-run.word-run.ensures _ _)))
 
 returns-4 : tie.Need-returns-4
 unfolding shape
@@ -45,7 +45,7 @@ returns-4 c r =
     let at-pass = at-if4.before.before.before.before.before.before.before.before.before in
     let at-if1 = at-pass.before in
     let at_read = at-if1.before in
-    node-on at_read.read.ensures Attach at-if4.if4.true refl at-if1.if1.false at-pass.pass.ensures (in_one (at-attach.attach.ensures _ _))
+    node_on at_read.read.ensures Attach at-if4.if4.true refl at-if1.if1.false at-pass.pass.ensures (in_one (at-attach.attach.ensures _ _))
 
 returns-5 : tie.Need-returns-5
 unfolding shape
@@ -55,7 +55,7 @@ returns-5 c r =
     let at-pass = at-if5.before.before.before.before.before.before.before.before.before.before.before in
     let at-if1 = at-pass.before in
     let at_read = at-if1.before in
-    node-on at_read.read.ensures Begin at-if5.if5.true refl at-if1.if1.false at-pass.pass.ensures (in_one (at-begin.begin.ensures _ _))
+    node_on at_read.read.ensures Begin at-if5.if5.true refl at-if1.if1.false at-pass.pass.ensures (in_one (at-begin.begin.ensures _ _))
 
 returns-6 : tie.Need-returns-6
 unfolding shape
@@ -65,7 +65,7 @@ returns-6 c r =
     let at-pass = at-if6.before.before.before.before.before.before.before.before.before.before.before.before.before in
     let at-if1 = at-pass.before in
     let at_read = at-if1.before in
-    node-on at_read.read.ensures Commit at-if6.if6.true refl at-if1.if1.false at-pass.pass.ensures (in_one (at-commit.commit.ensures _ _))
+    node_on at_read.read.ensures Commit at-if6.if6.true refl at-if1.if1.false at-pass.pass.ensures (in_one (at-commit.commit.ensures _ _))
 
 returns-7 : tie.Need-returns-7
 unfolding shape
@@ -77,7 +77,7 @@ returns-7 c r =
     let at-pass = at-first-flag.before in
     let at-if1 = at-pass.before in
     let at_read = at-if1.before in
-    node-on at_read.read.ensures CreateIndex at-if7.if7.true refl at-if1.if1.false at-pass.pass.ensures (in_one (at-create-index.create-index.ensures _ (at-first-flag.first-flag.ensures _ refl) (at-second-flag.second-flag.ensures _ refl)))
+    node_on at_read.read.ensures CreateIndex at-if7.if7.true refl at-if1.if1.false at-pass.pass.ensures (in_one (at-create-index.create-index.ensures _ (at-first-flag.first-flag.ensures _ refl) (at-second-flag.second-flag.ensures _ refl)))
 
 returns-8 : tie.Need-returns-8
 unfolding shape
@@ -89,7 +89,7 @@ returns-8 c r =
     let at-pass = at-first-flag.before in
     let at-if1 = at-pass.before in
     let at_read = at-if1.before in
-    node-on at_read.read.ensures CreateTable at-if8.if8.true refl at-if1.if1.false at-pass.pass.ensures (at-create-table.create-table.ensures _ (at-first-flag.first-flag.ensures _ refl) (at-second-flag.second-flag.ensures _ refl))
+    node_on at_read.read.ensures CreateTable at-if8.if8.true refl at-if1.if1.false at-pass.pass.ensures (at-create-table.create-table.ensures _ (at-first-flag.first-flag.ensures _ refl) (at-second-flag.second-flag.ensures _ refl))
 
 returns-9 : tie.Need-returns-9
 unfolding shape
@@ -102,7 +102,7 @@ returns-9 c r =
     let at-pass = at-first-flag.before in
     let at-if1 = at-pass.before in
     let at_read = at-if1.before in
-    node-on at_read.read.ensures CreateTrigger at-if9.if9.true refl at-if1.if1.false at-pass.pass.ensures (in_one (at-create-trigger.create-trigger.ensures _ _ (at-first-flag.first-flag.ensures _ refl) (at-second-flag.second-flag.ensures _ refl) (at-third-flag.third-flag.ensures _ refl)))
+    node_on at_read.read.ensures CreateTrigger at-if9.if9.true refl at-if1.if1.false at-pass.pass.ensures (in_one (at-create-trigger.create-trigger.ensures _ _ (at-first-flag.first-flag.ensures _ refl) (at-second-flag.second-flag.ensures _ refl) (at-third-flag.third-flag.ensures _ refl)))
 
 returns-10 : tie.Need-returns-10
 unfolding shape
@@ -114,7 +114,7 @@ returns-10 c r =
     let at-pass = at-first-flag.before in
     let at-if1 = at-pass.before in
     let at_read = at-if1.before in
-    node-on at_read.read.ensures CreateView at-if10.if10.true refl at-if1.if1.false at-pass.pass.ensures (in_one (at-create-view.create-view.ensures _ (at-first-flag.first-flag.ensures _ refl) (at-second-flag.second-flag.ensures _ refl)))
+    node_on at_read.read.ensures CreateView at-if10.if10.true refl at-if1.if1.false at-pass.pass.ensures (in_one (at-create-view.create-view.ensures _ (at-first-flag.first-flag.ensures _ refl) (at-second-flag.second-flag.ensures _ refl)))
 
 returns-11 : tie.Need-returns-11
 unfolding shape
@@ -125,7 +125,7 @@ returns-11 c r =
     let at-pass = at-first-flag.before in
     let at-if1 = at-pass.before in
     let at_read = at-if1.before in
-    node-on at_read.read.ensures CreateMaterializedView at-if11.if11.true refl at-if1.if1.false at-pass.pass.ensures (in_one (at-create-materialized-view.create-materialized-view.ensures _ (at-first-flag.first-flag.ensures _ refl)))
+    node_on at_read.read.ensures CreateMaterializedView at-if11.if11.true refl at-if1.if1.false at-pass.pass.ensures (in_one (at-create-materialized-view.create-materialized-view.ensures _ (at-first-flag.first-flag.ensures _ refl)))
 
 returns-12 : tie.Need-returns-12
 unfolding shape
@@ -136,7 +136,7 @@ returns-12 c r =
     let at-pass = at-first-flag.before in
     let at-if1 = at-pass.before in
     let at_read = at-if1.before in
-    node-on at_read.read.ensures CreateVirtualTable at-if12.if12.true refl at-if1.if1.false at-pass.pass.ensures (in_one (at-create-virtual-table.create-virtual-table.ensures _ _ (at-first-flag.first-flag.ensures _ refl)))
+    node_on at_read.read.ensures CreateVirtualTable at-if12.if12.true refl at-if1.if1.false at-pass.pass.ensures (in_one (at-create-virtual-table.create-virtual-table.ensures _ _ (at-first-flag.first-flag.ensures _ refl)))
 
 returns-13 : tie.Need-returns-13
 returns-13 c r =

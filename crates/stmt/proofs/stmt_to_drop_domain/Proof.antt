@@ -5,7 +5,7 @@ use borrow.Author.Tests.{ne_eqb}
 use Rattle.grammar.specs.Grammar.{shape}
 use Rattle.grammar.specs.Kind.{Savepoint, SelectStmt, Update, Vacuum, CreateType, CreateDomain, DropType, CreateSequence, DropSequence, DropDomain}
 use Rattle.pen.specs.Laws.{in_one}
-use Rattle.pen.specs.Places.{shallow, other, node-on}
+use Rattle.pen.specs.Places.{shallow, other, node_on}
 use Rattle.stmt.proofs.stmt_to_drop_domain.Statement.{statement}
 use Rattle.stmt.proofs.stmt_to_drop_domain.Tie as tie
 
@@ -24,7 +24,7 @@ returns-2 c r =
     let at-pass = at-if2.before.before.before.before in
     let at-if1 = at-pass.before in
     let at_read = at-if1.before in
-    node-on at_read.read.ensures Savepoint at-if2.if2.true refl at-if1.if1.false at-pass.pass.ensures (in_one (at-word-run.word-run.ensures _ _))
+    node_on at_read.read.ensures Savepoint at-if2.if2.true refl at-if1.if1.false at-pass.pass.ensures (in_one (at-word-run.word-run.ensures _ _))
 
 returns-3 : tie.Need-returns-3
 unfolding shape
@@ -34,7 +34,7 @@ returns-3 c r =
     let at-pass = at-if3.before.before.before.before.before.before in
     let at-if1 = at-pass.before in
     let at_read = at-if1.before in
-    node-on at_read.read.ensures SelectStmt at-if3.if3.true refl at-if1.if1.false at-pass.pass.ensures (in_one (at-select.select.ensures _))
+    node_on at_read.read.ensures SelectStmt at-if3.if3.true refl at-if1.if1.false at-pass.pass.ensures (in_one (at-select.select.ensures _))
 
 returns-4 : tie.Need-returns-4
 unfolding shape
@@ -44,7 +44,7 @@ returns-4 c r =
     let at-pass = at-if4.before.before.before.before.before.before.before.before in
     let at-if1 = at-pass.before in
     let at_read = at-if1.before in
-    node-on at_read.read.ensures Update at-if4.if4.true refl at-if1.if1.false at-pass.pass.ensures (in_one (at-update.update.ensures _))
+    node_on at_read.read.ensures Update at-if4.if4.true refl at-if1.if1.false at-pass.pass.ensures (in_one (at-update.update.ensures _))
 
 returns-5 : tie.Need-returns-5
 unfolding shape
@@ -54,7 +54,7 @@ returns-5 c r =
     let at-pass = at-if5.before.before.before.before.before.before.before.before.before.before in
     let at-if1 = at-pass.before in
     let at_read = at-if1.before in
-    node-on at_read.read.ensures Vacuum at-if5.if5.true refl at-if1.if1.false at-pass.pass.ensures (in_one (at-vacuum.vacuum.ensures _ _))
+    node_on at_read.read.ensures Vacuum at-if5.if5.true refl at-if1.if1.false at-pass.pass.ensures (in_one (at-vacuum.vacuum.ensures _ _))
 
 returns-6 : tie.Need-returns-6
 unfolding shape
@@ -65,7 +65,7 @@ returns-6 c r =
     let at-pass = at-first-flag.before in
     let at-if1 = at-pass.before in
     let at_read = at-if1.before in
-    node-on at_read.read.ensures CreateType at-if6.if6.true refl at-if1.if1.false at-pass.pass.ensures (at-create-type.create-type.ensures _ (at-first-flag.first-flag.ensures _ refl))
+    node_on at_read.read.ensures CreateType at-if6.if6.true refl at-if1.if1.false at-pass.pass.ensures (at-create-type.create-type.ensures _ (at-first-flag.first-flag.ensures _ refl))
 
 returns-7 : tie.Need-returns-7
 unfolding shape
@@ -77,7 +77,7 @@ returns-7 c r =
     let at-pass = at-first-flag.before in
     let at-if1 = at-pass.before in
     let at_read = at-if1.before in
-    node-on at_read.read.ensures CreateDomain at-if7.if7.true refl at-if1.if1.false at-pass.pass.ensures (in_one (at-create-domain.create-domain.ensures _ (at-first-flag.first-flag.ensures _ refl) (at-second-flag.second-flag.ensures _ refl)))
+    node_on at_read.read.ensures CreateDomain at-if7.if7.true refl at-if1.if1.false at-pass.pass.ensures (in_one (at-create-domain.create-domain.ensures _ (at-first-flag.first-flag.ensures _ refl) (at-second-flag.second-flag.ensures _ refl)))
 
 returns-8 : tie.Need-returns-8
 unfolding shape
@@ -88,7 +88,7 @@ returns-8 c r =
     let at-pass = at-first-flag.before in
     let at-if1 = at-pass.before in
     let at_read = at-if1.before in
-    node-on at_read.read.ensures DropType at-if8.if8.true refl at-if1.if1.false at-pass.pass.ensures (in_one (at-drop-type.drop-type.ensures _ _ (at-first-flag.first-flag.ensures _ refl)))
+    node_on at_read.read.ensures DropType at-if8.if8.true refl at-if1.if1.false at-pass.pass.ensures (in_one (at-drop-type.drop_type.ensures _ _ (at-first-flag.first-flag.ensures _ refl)))
 
 returns-9 : tie.Need-returns-9
 unfolding shape
@@ -100,7 +100,7 @@ returns-9 c r =
     let at-pass = at-first-flag.before in
     let at-if1 = at-pass.before in
     let at_read = at-if1.before in
-    node-on at_read.read.ensures CreateSequence at-if9.if9.true refl at-if1.if1.false at-pass.pass.ensures (in_one (at-create-sequence.create-sequence.ensures _ _ (at-first-flag.first-flag.ensures _ refl) (at-second-flag.second-flag.ensures _ refl)))
+    node_on at_read.read.ensures CreateSequence at-if9.if9.true refl at-if1.if1.false at-pass.pass.ensures (in_one (at-create-sequence.create-sequence.ensures _ _ (at-first-flag.first-flag.ensures _ refl) (at-second-flag.second-flag.ensures _ refl)))
 
 returns-10 : tie.Need-returns-10
 unfolding shape
@@ -111,7 +111,7 @@ returns-10 c r =
     let at-pass = at-first-flag.before in
     let at-if1 = at-pass.before in
     let at_read = at-if1.before in
-    node-on at_read.read.ensures DropSequence at-if10.if10.true refl at-if1.if1.false at-pass.pass.ensures (in_one (at-drop-sequence.drop-sequence.ensures _ _ (at-first-flag.first-flag.ensures _ refl)))
+    node_on at_read.read.ensures DropSequence at-if10.if10.true refl at-if1.if1.false at-pass.pass.ensures (in_one (at-drop-sequence.drop-sequence.ensures _ _ (at-first-flag.first-flag.ensures _ refl)))
 
 returns-11 : tie.Need-returns-11
 unfolding shape
@@ -122,7 +122,7 @@ returns-11 c r =
     let at-pass = at-first-flag.before in
     let at-if1 = at-pass.before in
     let at_read = at-if1.before in
-    node-on at_read.read.ensures DropDomain at-if11.if11.true refl at-if1.if1.false at-pass.pass.ensures (in_one (at-drop-domain.drop-domain.ensures _ _ (at-first-flag.first-flag.ensures _ refl)))
+    node_on at_read.read.ensures DropDomain at-if11.if11.true refl at-if1.if1.false at-pass.pass.ensures (in_one (at-drop-domain.drop-domain.ensures _ _ (at-first-flag.first-flag.ensures _ refl)))
 
 returns-12 : tie.Need-returns-12
 returns-12 c r =

@@ -4,7 +4,7 @@ use mathlib.Core.Path.{refl}
 use borrow.Author.Tests.{ne_eqb}
 use Rattle.grammar.specs.Grammar.{shape}
 use Rattle.grammar.specs.Kind.{Delete, Detach, DropIndex, DropTable, DropTrigger, DropView, Insert, Pragma, Reindex, Optimize, Release, Rollback}
-use Rattle.pen.specs.Places.{shallow, other, node-on, optional-last}
+use Rattle.pen.specs.Places.{shallow, other, node_on, optional_last}
 use Rattle.stmt.proofs.stmt_to_rollback.Statement.{statement}
 use Rattle.stmt.proofs.stmt_to_rollback.Tie as tie
 
@@ -23,7 +23,7 @@ returns-2 c r =
     let at-pass = at-if2.before.before.before in
     let at-if1 = at-pass.before in
     let at_read = at-if1.before in
-    node-on at_read.read.ensures Delete at-if2.if2.true refl at-if1.if1.false at-pass.pass.ensures (at-delete.delete.ensures _)
+    node_on at_read.read.ensures Delete at-if2.if2.true refl at-if1.if1.false at-pass.pass.ensures (at-delete.delete.ensures _)
 
 returns-3 : tie.Need-returns-3
 unfolding shape
@@ -33,7 +33,7 @@ returns-3 c r =
     let at-pass = at-if3.before.before.before.before.before in
     let at-if1 = at-pass.before in
     let at_read = at-if1.before in
-    node-on at_read.read.ensures Detach at-if3.if3.true refl at-if1.if1.false at-pass.pass.ensures (at-word-run.word-run.ensures _ _)
+    node_on at_read.read.ensures Detach at-if3.if3.true refl at-if1.if1.false at-pass.pass.ensures (at-word-run.word-run.ensures _ _)
 
 returns-4 : tie.Need-returns-4
 unfolding shape
@@ -44,7 +44,7 @@ returns-4 c r =
     let at-pass = at-first-flag.before in
     let at-if1 = at-pass.before in
     let at_read = at-if1.before in
-    node-on at_read.read.ensures DropIndex at-if4.if4.true refl at-if1.if1.false at-pass.pass.ensures (at-drop-named.drop_named.ensures _ _ (at-first-flag.first-flag.ensures _ refl))
+    node_on at_read.read.ensures DropIndex at-if4.if4.true refl at-if1.if1.false at-pass.pass.ensures (at-drop-named.drop_named.ensures _ _ (at-first-flag.first-flag.ensures _ refl))
 
 returns-5 : tie.Need-returns-5
 unfolding shape
@@ -55,7 +55,7 @@ returns-5 c r =
     let at-pass = at-first-flag.before in
     let at-if1 = at-pass.before in
     let at_read = at-if1.before in
-    node-on at_read.read.ensures DropTable at-if5.if5.true refl at-if1.if1.false at-pass.pass.ensures (at-drop-named2.drop-named2.ensures _ _ (at-first-flag.first-flag.ensures _ refl))
+    node_on at_read.read.ensures DropTable at-if5.if5.true refl at-if1.if1.false at-pass.pass.ensures (at-drop-named2.drop-named2.ensures _ _ (at-first-flag.first-flag.ensures _ refl))
 
 returns-6 : tie.Need-returns-6
 unfolding shape
@@ -66,7 +66,7 @@ returns-6 c r =
     let at-pass = at-first-flag.before in
     let at-if1 = at-pass.before in
     let at_read = at-if1.before in
-    node-on at_read.read.ensures DropTrigger at-if6.if6.true refl at-if1.if1.false at-pass.pass.ensures (at-drop-named3.drop-named3.ensures _ _ (at-first-flag.first-flag.ensures _ refl))
+    node_on at_read.read.ensures DropTrigger at-if6.if6.true refl at-if1.if1.false at-pass.pass.ensures (at-drop-named3.drop-named3.ensures _ _ (at-first-flag.first-flag.ensures _ refl))
 
 returns-7 : tie.Need-returns-7
 unfolding shape
@@ -77,7 +77,7 @@ returns-7 c r =
     let at-pass = at-first-flag.before in
     let at-if1 = at-pass.before in
     let at_read = at-if1.before in
-    node-on at_read.read.ensures DropView at-if7.if7.true refl at-if1.if1.false at-pass.pass.ensures (at-drop-named4.drop-named4.ensures _ _ (at-first-flag.first-flag.ensures _ refl))
+    node_on at_read.read.ensures DropView at-if7.if7.true refl at-if1.if1.false at-pass.pass.ensures (at-drop-named4.drop-named4.ensures _ _ (at-first-flag.first-flag.ensures _ refl))
 
 returns-8 : tie.Need-returns-8
 unfolding shape
@@ -87,7 +87,7 @@ returns-8 c r =
     let at-pass = at-if8.before.before.before.before.before.before.before.before.before.before.before.before.before.before.before in
     let at-if1 = at-pass.before in
     let at_read = at-if1.before in
-    node-on at_read.read.ensures Insert at-if8.if8.true refl at-if1.if1.false at-pass.pass.ensures (at-insert.insert.ensures _)
+    node_on at_read.read.ensures Insert at-if8.if8.true refl at-if1.if1.false at-pass.pass.ensures (at-insert.insert.ensures _)
 
 returns-9 : tie.Need-returns-9
 unfolding shape
@@ -97,7 +97,7 @@ returns-9 c r =
     let at-pass = at-if9.before.before.before.before.before.before.before.before.before.before.before.before.before.before.before.before.before in
     let at-if1 = at-pass.before in
     let at_read = at-if1.before in
-    node-on at_read.read.ensures Pragma at-if9.if9.true refl at-if1.if1.false at-pass.pass.ensures (at-pragma.pragma.ensures _ _)
+    node_on at_read.read.ensures Pragma at-if9.if9.true refl at-if1.if1.false at-pass.pass.ensures (at-pragma.pragma.ensures _ _)
 
 returns-10 : tie.Need-returns-10
 unfolding shape
@@ -107,7 +107,7 @@ returns-10 c r =
     let at-pass = at-if10.before.before.before.before.before.before.before.before.before.before.before.before.before.before.before.before.before.before.before in
     let at-if1 = at-pass.before in
     let at_read = at-if1.before in
-    node-on at_read.read.ensures Reindex at-if10.if10.true refl at-if1.if1.false at-pass.pass.ensures (optional-last (at-word-run2.word-run2.ensures _ _))
+    node_on at_read.read.ensures Reindex at-if10.if10.true refl at-if1.if1.false at-pass.pass.ensures (optional_last (at-word-run2.word-run2.ensures _ _))
 
 returns-11 : tie.Need-returns-11
 unfolding shape
@@ -117,7 +117,7 @@ returns-11 c r =
     let at-pass = at-if11.before.before.before.before.before.before.before.before.before.before.before.before.before.before.before.before.before.before.before.before.before in
     let at-if1 = at-pass.before in
     let at_read = at-if1.before in
-    node-on at_read.read.ensures Optimize at-if11.if11.true refl at-if1.if1.false at-pass.pass.ensures (at-optimize.optimize.ensures _ _)
+    node_on at_read.read.ensures Optimize at-if11.if11.true refl at-if1.if1.false at-pass.pass.ensures (at-optimize.optimize.ensures _ _)
 
 returns-12 : tie.Need-returns-12
 unfolding shape
@@ -127,7 +127,7 @@ returns-12 c r =
     let at-pass = at-if12.before.before.before.before.before.before.before.before.before.before.before.before.before.before.before.before.before.before.before.before.before.before.before in
     let at-if1 = at-pass.before in
     let at_read = at-if1.before in
-    node-on at_read.read.ensures Release at-if12.if12.true refl at-if1.if1.false at-pass.pass.ensures (at-word-run3.word-run3.ensures _ _)
+    node_on at_read.read.ensures Release at-if12.if12.true refl at-if1.if1.false at-pass.pass.ensures (at-word-run3.word-run3.ensures _ _)
 
 returns-13 : tie.Need-returns-13
 unfolding shape
@@ -137,7 +137,7 @@ returns-13 c r =
     let at-pass = at-if13.before.before.before.before.before.before.before.before.before.before.before.before.before.before.before.before.before.before.before.before.before.before.before.before.before in
     let at-if1 = at-pass.before in
     let at_read = at-if1.before in
-    node-on at_read.read.ensures Rollback at-if13.if13.true refl at-if1.if1.false at-pass.pass.ensures (at-rollback.rollback.ensures _ _)
+    node_on at_read.read.ensures Rollback at-if13.if13.true refl at-if1.if1.false at-pass.pass.ensures (at-rollback.rollback.ensures _ _)
 
 returns-14 : tie.Need-returns-14
 returns-14 c r =

@@ -1,7 +1,7 @@
 -- `store::few` meets its contract: there is none, or the first, the middle and the last are all.
 use native.Mathlib.Omega.{arith}
 use lib.ListN.{length-set}
-use Rattle.store.specs.Copies.{no_byte, three-bytes}
+use Rattle.store.specs.Copies.{no_byte, three_bytes}
 use borrow.Author.Rules.{rules}
 use Rattle.store.proofs.few.Statement.{statement}
 use Rattle.store.proofs.few.Tie as tie
@@ -21,7 +21,7 @@ same_length c = search rules
 returns-2 : tie.Need-returns-2
 returns-2 c =
     let start = c.before.before.before.before in
-    three-bytes start.args.out.now start.args.v.now start.args.at c.before.before.before.if1.false start.requires.0
+    three_bytes start.args.out.now start.args.v.now start.args.at c.before.before.before.if1.false start.requires.0
 
 pub few-spec : {M : Type 1} → statement M
 few-spec =

@@ -8,20 +8,20 @@ use lib.Seq.{length-sets}
 use borrow.Author.Rules.{rules}
 use borrow.Author.Tests.{not-true, not-false}
 use Rattle.store.specs.Laid.{most}
-use Rattle.store.specs.Laws.{none, no_room, at_most_one, not-laid, all_laid}
+use Rattle.store.specs.Laws.{none, no_room, at_most_one, not_laid, all_laid}
 use Rattle.store.proofs.lay_all.Statement.{statement}
 use Rattle.store.proofs.lay_all.Tie as tie
 
 returns : tie.Need-returns
 returns c =
     let args = c.before.before.before.args in
-    not-laid args.at args.spaced args.v.now args.out.now (none args.at (length args.out.now) args.v.now c.if1.true)
+    not_laid args.at args.spaced args.v.now args.out.now (none args.at (length args.out.now) args.v.now c.if1.true)
 
 returns-2 : tie.Need-returns-2
 returns-2 c =
     let args = c.before.before.before.before.before.args in
     let fits = c.before.fits2 in
-    not-laid args.at args.spaced args.v.now args.out.now
+    not_laid args.at args.spaced args.v.now args.out.now
     (no_room args.at (length args.out.now) args.v.now (λ h. false≢true (sym (not-true fits.result c.if2.true) ∙ fits.ensures.1 h)))
 
 start-requires : tie.Need-start-requires

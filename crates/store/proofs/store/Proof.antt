@@ -2,7 +2,7 @@
 use native.Mathlib.Omega.{arith}
 use mathlib.Core.Path.{sym}
 use lib.Seq.{length-take-le}
-use Rattle.laws.specs.Sets.{sets-past}
+use Rattle.laws.specs.Sets.{sets_past}
 use Rattle.store.specs.Copies.{as_fits}
 use borrow.Author.Rules.{rules}
 use Rattle.store.proofs.store.Statement.{statement}
@@ -11,7 +11,7 @@ use Rattle.store.proofs.store.Tie as tie
 returns : tie.Need-returns
 returns c =
     let at-args = c.before.before.before.args in
-    sym (sets-past at-args.v.now at-args.out.now at-args.at (omega (arith, c.if1.true)))
+    sym (sets_past at-args.v.now at-args.out.now at-args.at (omega (arith, c.if1.true)))
 
 slice-aggregate-lay : tie.Need-slice-aggregate-lay
 slice-aggregate-lay c =

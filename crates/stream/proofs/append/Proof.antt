@@ -4,7 +4,7 @@ use native.Mathlib.Omega.{arith}
 use lib.ListN.{length}
 use Rattle.laws.specs.Rest.{rest}
 use Rattle.stream.specs.Sink.{most}
-use Rattle.stream.specs.Laws.{step-blob, step_other, taken-whole}
+use Rattle.stream.specs.Laws.{step_blob, step_other, taken_whole}
 use borrow.Author.Rules.{rules}
 use Rattle.stream.proofs.append.Statement.{statement}
 use Rattle.stream.proofs.append.Tie as tie
@@ -17,8 +17,8 @@ returns c =
     let at_out = at_gap.before.before.before.before.before.before in
     let args = at_out.before.args in
     let held : length args.out.now ≤ most = omega (arith, at_out.before.well-formed.0) in
-    taken-whole _ _ _ args.has _ args.value.now _ _ (rest args.word.now 0) (rest args.value.now 0)
-    (step-blob _ _ _ _ _ _ held at_gap.gap.ensures at-if1.if1.true at-blob.blob.ensures)
+    taken_whole _ _ _ args.has _ args.value.now _ _ (rest args.word.now 0) (rest args.value.now 0)
+    (step_blob _ _ _ _ _ _ held at_gap.gap.ensures at-if1.if1.true at-blob.blob.ensures)
 
 -- the pieces are the last three arguments: the space, the spelling and the value
 returns-2 : tie.Need-returns-2
@@ -30,7 +30,7 @@ returns-2 c =
     let at_out = at_gap.before.before.before.before.before.before in
     let args = at_out.before.args in
     let held : length args.out.now ≤ most = omega (arith, at_out.before.well-formed.0) in
-    taken-whole _ _ _ args.has _ args.value.now _ _ (rest args.word.now 0) (rest args.value.now 0)
+    taken_whole _ _ _ args.has _ args.value.now _ _ (rest args.word.now 0) (rest args.value.now 0)
     (step_other _ _ _ _ _ _ _ held at_gap.gap.ensures at-if1.if1.false at-spell.spell.ensures at-valued.valued.ensures)
 
 pub append-spec : {M : Type 1} → statement M

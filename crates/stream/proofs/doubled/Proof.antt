@@ -2,7 +2,7 @@
 use borrow.Author.Rules.{rules}
 use native.Mathlib.Omega.{arith}
 use Rattle.stream.specs.Sink.{mark, doubled}
-use Rattle.stream.specs.Laws.{step_other, quotes-one}
+use Rattle.stream.specs.Laws.{step_other, quotes_one}
 use Rattle.stream.proofs.doubled.Statement.{statement}
 use Rattle.stream.proofs.doubled.Tie as tie
 
@@ -14,7 +14,7 @@ returns c =
     let at_gap = at-spell.before.before.before.before in
     let start = at_gap.before.before.before.before.before in
     step_other _ _ _ _ _ _ _ (omega (arith, start.well-formed.0)) at_gap.gap.ensures (λ e. omega arith) at-spell.spell.ensures
-    (quotes-one _ _ (doubled start.args.value.now) at_value.in-quotes-doubled.ensures)
+    (quotes_one _ _ (doubled start.args.value.now) at_value.in-quotes-doubled.ensures)
 
 pub doubled-spec : {M : Type 1} → statement M
 doubled-spec =

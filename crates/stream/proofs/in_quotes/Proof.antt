@@ -1,12 +1,12 @@
 -- `stream::in_quotes` meets its contract: the value's three pieces join by the laws of the sink.
 use borrow.Author.Rules.{rules}
-use Rattle.stream.specs.Laws.{quotes-poured}
+use Rattle.stream.specs.Laws.{quotes_poured}
 use Rattle.stream.proofs.in_quotes.Statement.{statement}
 use Rattle.stream.proofs.in_quotes.Tie as tie
 
 returns : tie.Need-returns
 returns c =
-    quotes-poured _ _ _ _ _ (search rules)
+    quotes_poured _ _ _ _ _ (search rules)
     c.before.before.before.before.before.before.before.before.before.before.before.put.ensures
     c.before.before.before.before.before.before.before.put2.ensures c.before.before.put3.ensures
 

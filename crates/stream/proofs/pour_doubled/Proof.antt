@@ -5,8 +5,8 @@ use native.Mathlib.Omega.{arith}
 use lib.ListN.{length, take}
 use lib.Seq.{take_all}
 use Rattle.stream.specs.Sink.{State, pour, doubled}
-use Rattle.stream.specs.Laws.{pour-length}
-use Rattle.stream.specs.Doubled.{none-poured, next-poured}
+use Rattle.stream.specs.Laws.{pour_length}
+use Rattle.stream.specs.Doubled.{none_poured, next_poured}
 use borrow.Author.Rules.{rules}
 use Rattle.stream.proofs.pour_doubled.Statement.{statement}
 use Rattle.stream.proofs.pour_doubled.Tie as tie
@@ -18,14 +18,14 @@ abbrev decreases-loop : tie.decreases-loop
 decreases-loop out₀ value t₀ i₀ out t i = length value - i
 
 loop-holds : tie.Need-loop-init invariant-loop decreases-loop
-loop-holds c = (omega arith, none-poured _ (search rules))
+loop-holds c = (omega arith, none_poured _ (search rules))
 
 loop-again : tie.Need-loop-preserved invariant-loop decreases-loop
 loop-again c =
     let at-twice = c.before.before in
     let at_test = at-twice.before.before.before in
     let some = at_test.loop-test.true in
-    (omega arith, next-poured _ _ _ _ _ (search rules) some at_test.before.loop.invariant.1 at-twice.twice.ensures)
+    (omega arith, next_poured _ _ _ _ _ (search rules) some at_test.before.loop.invariant.1 at-twice.twice.ensures)
 
 returns : tie.Need-returns invariant-loop decreases-loop
 returns c =
@@ -34,7 +34,7 @@ returns c =
     rw (take_all loop.i value c.loop-test.false) at loop.invariant.1
 
 same_length : tie.Need-same-length invariant-loop decreases-loop
-same_length c = ap (λ (st : State). length st.1) (returns c) ∙ pour-length _ _
+same_length c = ap (λ (st : State). length st.1) (returns c) ∙ pour_length _ _
 
 pub pour-doubled-spec : {M : Type 1} → statement M
 pour-doubled-spec =

@@ -2,7 +2,7 @@
 use borrow.Author.Rules.{rules}
 use native.Mathlib.Omega.{arith}
 use Rattle.stream.specs.Sink.{mark}
-use Rattle.stream.specs.Laws.{step_other, quotes-one}
+use Rattle.stream.specs.Laws.{step_other, quotes_one}
 use Rattle.stream.proofs.quoted.Statement.{statement}
 use Rattle.stream.proofs.quoted.Tie as tie
 
@@ -11,7 +11,7 @@ unfolding mark
 returns c =
     step_other _ _ _ _ _ _ _ (search rules)
     c.before.before.before.before.before.before.before.before.before.before.gap.ensures
-    (λ e. omega arith) c.before.before.before.before.before.before.spell.ensures (quotes-one _ _ c.before.before.before.before.before.before.before.before.before.before.before.before.before.before.before.args.value.now c.before.before.in-quotes.ensures)
+    (λ e. omega arith) c.before.before.before.before.before.before.spell.ensures (quotes_one _ _ c.before.before.before.before.before.before.before.before.before.before.before.before.before.before.before.args.value.now c.before.before.in-quotes.ensures)
 
 pub quoted-spec : {M : Type 1} → statement M
 quoted-spec =

@@ -1,12 +1,12 @@
 -- `stream::spell` meets its contract: each way through it is one law.
 use Rattle.stream.specs.Sink.{mark}
-use Rattle.stream.specs.Laws.{spell-none, spell_one}
+use Rattle.stream.specs.Laws.{spell_none, spell_one}
 use borrow.Author.Rules.{rules}
 use Rattle.stream.proofs.spell.Statement.{statement}
 use Rattle.stream.proofs.spell.Tie as tie
 
 returns : tie.Need-returns
-returns c = spell-none _ _ c.before.before.before.args.word.now (search rules) c.if1.true
+returns c = spell_none _ _ c.before.before.before.args.word.now (search rules) c.if1.true
 
 returns-2 : tie.Need-returns-2
 unfolding mark

@@ -1,6 +1,6 @@
 -- `stream::twice` meets its contract: each way through it is one law.
 use borrow.Author.Rules.{rules}
-use Rattle.stream.specs.Doubled.{byte-once, quote-twice}
+use Rattle.stream.specs.Doubled.{byte_once, quote_twice}
 use Rattle.stream.proofs.twice.Statement.{statement}
 use Rattle.stream.proofs.twice.Tie as tie
 
@@ -9,10 +9,10 @@ returns c =
     let at_second = c.before.before in
     let at-if1 = at_second.before.before in
     let at_first = at-if1.before.before.before in
-    quote-twice _ _ _ _ (search rules) at-if1.if1.true at_first.put_byte.ensures at_second.put-byte2.ensures
+    quote_twice _ _ _ _ (search rules) at-if1.if1.true at_first.put_byte.ensures at_second.put-byte2.ensures
 
 returns-2 : tie.Need-returns-2
-returns-2 c = byte-once _ _ _ c.if1.false c.before.before.before.put_byte.ensures
+returns-2 c = byte_once _ _ _ c.if1.false c.before.before.before.put_byte.ensures
 
 pub twice_spec : {M : Type 1} → statement M
 twice_spec =

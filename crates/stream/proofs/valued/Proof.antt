@@ -1,6 +1,6 @@
 -- `stream::valued` meets its contract: each way through it is one law.
 use Rattle.stream.specs.Sink.{mark}
-use Rattle.stream.specs.Laws.{value-one, value_none}
+use Rattle.stream.specs.Laws.{value_one, value_none}
 use borrow.Author.Rules.{rules}
 use Rattle.stream.proofs.valued.Statement.{statement}
 use Rattle.stream.proofs.valued.Tie as tie
@@ -10,7 +10,7 @@ unfolding mark
 returns c =
     let at-if1 = c.before.before.before.before.before.if1 in
     let at-put = c.before.before.before.put in
-    value-one _ _ _ _ _ at-if1.true at-put.ensures c.all-blank.ensures
+    value_one _ _ _ _ _ at-if1.true at-put.ensures c.all-blank.ensures
 
 returns-2 : tie.Need-returns-2
 returns-2 c = value_none _ _ _ (search rules) c.if1.false

@@ -8,9 +8,9 @@ use mathlib.Core.Path.{◌≡◌}
 use mathlib.Core.Bool.{true}
 use mathlib.Core.List.{map}
 use mathlib.Core.Logic.{⊎_elim}
-use Rattle.grammar.specs.Packed.{along, allHeld}
+use Rattle.grammar.specs.Packed.{along, all_held}
 use Rattle.tree.specs.Check.{place}
-use Rattle.tree.specs.Steps.{childless, run_holds, row-holds, row-held, Along, along-start, nothing_walked, row-end, row-refused, row-filled, there, met-fits, met-left, along-split, held-split, along-none}
+use Rattle.tree.specs.Steps.{childless, run_holds, row_holds, row_held, Along, along_start, nothing_walked, row_end, row_refused, row_filled, there, met_fits, met_left, along_split, held_split, along_none}
 use borrow.Fn.Kinds.{In}
 use borrow.Fn.PlainCycle.{Measures, is, falls, and}
 use Rattle.tree.proofs.check_row.Reads as check-row
@@ -40,7 +40,7 @@ check-row-calls t = (first_reads.Asked, first_reads.Learnt, read-reads.Asked, re
 -- what is left of the row are all places
 abbrev check-row-Inv-loop : check-row-lts.invariant-loop
 check-row-Inv-loop tree text index row left n next₀ places₀ rest₀ next places rest =
-    (allHeld places rest ≡ true)
+    (all_held places rest ≡ true)
     × Along tree text index (map (place (65 - left)) (along row n)) next (map (place (65 - left)) (along places rest))
 
 abbrev check-row-μ-loop : check-row-lts.decreases-loop
@@ -51,7 +51,7 @@ check-row-met t =
     check-row-lts.spec (check-row-calls t) (check-row-at t) check-row.Post check-row-Inv-loop check-row-μ-loop
     (λ c.  -- loop-holds
     let at_pre = c.before.before.requires in
-    (at_pre.1.1.1.1.1, along-start _ _ _ _ at_pre.1.0 at_pre.1.1.1.0))
+    (at_pre.1.1.1.1.1, along_start _ _ _ _ at_pre.1.0 at_pre.1.1.1.0))
     (λ c κs.  -- first-requires
     search rules)
     (λ c κs.  -- read-requires
@@ -60,7 +60,7 @@ check-row-met t =
     let at-loop-test = c.before.before.loop-test in
     let at-loop = c.before.before.before.loop in
     let at_pre = c.before.before.before.before.before.before.requires in
-    (rw c.before.first.ensures (held-split _ _ at-loop-test.true at-loop.invariant.0).0, (at_pre.1.1.1.1.0, (c.read.ensures, (at_pre.1.0, at_pre.1.1.0)))))
+    (rw c.before.first.ensures (held_split _ _ at-loop-test.true at-loop.invariant.0).0, (at_pre.1.1.1.1.0, (c.read.ensures, (at_pre.1.0, at_pre.1.1.0)))))
     (λ c.  -- returns
     let at_first = c.before.before.before.first in
     let at-args = c.before.before.before.before.before.before.before.before.args in
@@ -68,7 +68,7 @@ check-row-met t =
     let at-loop-test = c.before.before.before.before.loop-test in
     let at_pre = c.before.before.before.before.before.before.before.before.requires in
     let m = rw at_first.ensures at c.before.refused-at.ensures in
-    row-refused at-args.tree.now at-args.text.now _ _ _ _ _ at-loop.invariant.1 _ _ (along-split _ _ at-loop-test.true) _ _ m (omega (arith, at_pre.1.0, at_pre.1.1.1.0)) c.if1.true)
+    row_refused at-args.tree.now at-args.text.now _ _ _ _ _ at-loop.invariant.1 _ _ (along_split _ _ at-loop-test.true) _ _ m (omega (arith, at_pre.1.0, at_pre.1.1.1.0)) c.if1.true)
     (λ c.  -- add-next
     let at_first = c.before.before.before.first in
     let at_pre = c.before.before.before.before.before.before.before.before.requires in
@@ -79,7 +79,7 @@ check-row-met t =
     let at-refused-at = c.before.before.before.before.before.refused-at in
     let at-if1 = c.before.before.before.before.if1 in
     let m = rw at_first.ensures at at-refused-at.ensures in
-    met-left _ _ _ _ _ _ _ m at-if1.false)
+    met_left _ _ _ _ _ _ _ m at-if1.false)
     (λ c κs.  -- check-tokens-requires
     let at_first = c.before.before.before.before.before.before.before.first in
     let at-refused-at = c.before.before.before.before.before.refused-at in
@@ -94,7 +94,7 @@ check-row-met t =
     let at-refused-at = c.before.before.before.before.before.before.refused-at in
     let at-if1 = c.before.before.before.before.before.if1 in
     let m = rw at_first.ensures at at-refused-at.ensures in
-    met-left _ _ _ _ _ _ _ m at-if1.false)
+    met_left _ _ _ _ _ _ _ m at-if1.false)
     (λ c κs.  -- check-row-requires
     let at_first = c.before.before.before.before.before.before.before.before.first in
     let at-refused-at = c.before.before.before.before.before.before.refused-at in
@@ -104,8 +104,8 @@ check-row-met t =
     let at_pre = c.before.before.before.before.before.before.before.before.before.before.before.before.before.requires in
     let at_read = c.before.before.before.before.before.before.before.read in
     let m = rw at_first.ensures at at-refused-at.ensures in
-    let held = (held-split _ _ at-loop-test.true at-loop.invariant.0).0 in
-    let l = met-left _ _ _ _ _ _ _ m at-if1.false in (
+    let held = (held_split _ _ at-loop-test.true at-loop.invariant.0).0 in
+    let l = met_left _ _ _ _ _ _ _ m at-if1.false in (
       omega arith,
       (
         at_pre.1.0,
@@ -115,7 +115,7 @@ check-row-met t =
             omega (arith, there _ _ _ _ _ _ _ m at-if1.false),
             (
               omega (arith, at_pre.1.1.1.1.0),
-              rw (c.row.ensures, at_first.ensures) (row-held _ at_read.result held (met-fits _ _ _ _ _ _ _ m at-if1.false) c.before.if3.false),
+              rw (c.row.ensures, at_first.ensures) (row_held _ at_read.result held (met_fits _ _ _ _ _ _ _ m at-if1.false) c.before.if3.false),
             ),
           ),
         ),
@@ -138,20 +138,20 @@ check-row-met t =
     let at_read = c.before.before.before.before.before.read in
     let m = rw at_first.ensures at at-refused-at.ensures in
     let z = at-if1.false in
-    let held = held-split _ _ at-loop-test.true at-loop.invariant.0 in
-    let fit = met-fits _ _ _ _ _ _ _ m z in
+    let held = held_split _ _ at-loop-test.true at-loop.invariant.0 in
+    let fit = met_fits _ _ _ _ _ _ _ m z in
     rw c.turned.ensures (
       held.1,
-      row-filled at-args.tree.now at-args.text.now _ _ _ _ _ at-loop.invariant.1 _ _ (along-split _ _ at-loop-test.true) _ _ m z at_pre.1.0 at_pre.1.1.1.1.0 at_read.ensures _
+      row_filled at-args.tree.now at-args.text.now _ _ _ _ _ at-loop.invariant.1 _ _ (along_split _ _ at-loop-test.true) _ _ m z at_pre.1.0 at_pre.1.1.1.1.0 at_read.ensures _
           (⊎_elim
           (λ w. rw (w.4, run_holds _ at_read.result w.2.taken) w.3.ensures)
           (⊎_elim
-          (λ w. rw (w.5, row-holds _ at_read.result held.0 fit w.2.left) (rw (w.3.ensures, at_first.ensures) at w.4.ensures))
+          (λ w. rw (w.5, row_holds _ at_read.result held.0 fit w.2.left) (rw (w.3.ensures, at_first.ensures) at w.4.ensures))
           (λ w. rw (w.1, childless _ at_read.result fit w.0.left) (nothing_walked _ _ _ at_pre.1.0 (omega (arith, there _ _ _ _ _ _ _ m z)))))
           c.before.if2.branch),
     ))
     (λ c.  -- returns-2
-    row-end _ _ _ _ _ _ _ c.before.loop.invariant.1 (along-none _ _ c.loop-test.false))
+    row_end _ _ _ _ _ _ _ c.before.loop.invariant.1 (along_none _ _ c.loop-test.false))
 
 pub +check-row-spec : {M : Type 1} → statement M
 +check-row-spec = close μ-check-row check-row-met

@@ -5,10 +5,10 @@ use Prim.Native.Nat.{◌-◌, ◌≤◌}
 use mathlib.Core.List.{map}
 use lib.ListN.{replicate}
 use Rattle.record.specs.Record.{count}
-use Rattle.grammar.specs.Classes.{class_at, tokenAt}
+use Rattle.grammar.specs.Classes.{class_at, token_at}
 use Rattle.tree.specs.Check.{place}
-use Rattle.tree.specs.Walk.{past, faulted, down, fine-fits, fault-small}
-use Rattle.tree.specs.Steps.{token-childless, same-split, same_none, Along, along-start, nothing_walked, row-end, row_next, row-stops}
+use Rattle.tree.specs.Walk.{past, faulted, down, fine_fits, fault_small}
+use Rattle.tree.specs.Steps.{token_childless, same_split, same_none, Along, along_start, nothing_walked, row_end, row_next, row_stops}
 use borrow.Author.Rules.{rules}
 use Rattle.tree.proofs.check_tokens.Statement.{statement}
 use Rattle.tree.proofs.check_tokens.Tie as tie
@@ -16,7 +16,7 @@ use Rattle.tree.proofs.check_tokens.Tie as tie
 abbrev invariant-loop : tie.invariant-loop
 invariant-loop tree text index left n next₀ rest₀ next rest =
     (next ≤ count tree)
-    × Along tree text index (map (place (65 - left)) (replicate n (class_at tokenAt))) next (map (place (65 - left)) (replicate rest (class_at tokenAt)))
+    × Along tree text index (map (place (65 - left)) (replicate n (class_at token_at))) next (map (place (65 - left)) (replicate rest (class_at token_at)))
 
 abbrev decreases-loop : tie.decreases-loop
 decreases-loop tree text index left n next₀ rest₀ next rest = rest
@@ -34,11 +34,11 @@ returns c =
     let at-loop-test = c.before.before.before.loop-test in
     let e = at-loop.invariant.0 in
     rw c.refusal.ensures
-    (row-stops _ _ _ _ _ _ _ at-loop.invariant.1 _ _ (same-split _ _ at-loop-test.true) (omega arith) _
+    (row_stops _ _ _ _ _ _ _ at-loop.invariant.1 _ _ (same_split _ _ at-loop-test.true) (omega arith) _
     (past at-args.tree.now at-args.text.now _ _ (search rules) (omega arith)) (omega arith))
 
 refusal-requires-2 : tie.Need-refusal-requires-2 invariant-loop decreases-loop
-refusal-requires-2 c κs = (fault-small _ _ _ _ _ c.before.token-fault.ensures, omega arith)
+refusal-requires-2 c κs = (fault_small _ _ _ _ _ c.before.token-fault.ensures, omega arith)
 
 returns-2 : tie.Need-returns-2 invariant-loop decreases-loop
 returns-2 c =
@@ -48,7 +48,7 @@ returns-2 c =
     let at_read = c.before.before.before.read in
     let found = c.before.before.token-fault in
     rw c.refusal2.ensures
-    (row-stops _ _ _ _ _ _ _ at-loop.invariant.1 _ _ (same-split _ _ at-loop-test.true) (omega arith) _
+    (row_stops _ _ _ _ _ _ _ at-loop.invariant.1 _ _ (same_split _ _ at-loop-test.true) (omega arith) _
     (faulted at-args.tree.now at-args.text.now _ _ _ _ (search rules) at_read.ensures _ found.ensures c.before.if2.true (omega arith)) (omega arith))
 
 loop-again : tie.Need-loop-preserved invariant-loop decreases-loop
@@ -58,9 +58,9 @@ loop-again c =
     let at-loop-test = c.before.before.before.before.before.loop-test in
     let at_read = c.before.before.read in
     let found = c.before.token-fault in
-    let none = token-childless _ (fine-fits at-args.text.now _ _ _ _ found.ensures c.if2.false) in (
+    let none = token_childless _ (fine_fits at-args.text.now _ _ _ _ found.ensures c.if2.false) in (
       omega arith,
-      row_next _ _ _ _ _ _ _ at-loop.invariant.1 _ _ (same-split _ _ at-loop-test.true) (omega arith) _
+      row_next _ _ _ _ _ _ _ at-loop.invariant.1 _ _ (same_split _ _ at-loop-test.true) (omega arith) _
           (down at-args.tree.now at-args.text.now _ _ _ _ (search rules) at_read.ensures _ found.ensures c.if2.false (omega arith) _
           (rw none (nothing_walked _ _ _ (omega arith) (omega arith)))),
     )
@@ -70,12 +70,12 @@ returns-3 c =
     let at-args = c.before.before.before.before.args in
     let at-loop = c.before.loop in
     let at-loop-test = c.loop-test in
-    row-end at-args.tree.now _ _ _ _ _ _ at-loop.invariant.1 (same_none _ _ at-loop-test.false)
+    row_end at-args.tree.now _ _ _ _ _ _ at-loop.invariant.1 (same_none _ _ at-loop-test.false)
 
 pub check-tokens-spec : {M : Type 1} → statement M
 check-tokens-spec =
     tie.close
     (tie.spec invariant-loop decreases-loop
-    (λ c. (c.before.before.requires.1.0, along-start _ _ _ _ c.before.before.requires.0 c.before.before.requires.1.0))
+    (λ c. (c.before.before.requires.1.0, along_start _ _ _ _ c.before.before.requires.0 c.before.before.requires.1.0))
     (λ c κs. search rules) refusal-requires returns (λ c κs. search rules) (λ c κs. search rules)
     refusal-requires-2 returns-2 (λ c. search rules) (λ c. search rules) (λ c. search rules) loop-again returns-3)

@@ -1,13 +1,13 @@
 -- `tree::first_fault` meets its contract: each return is the first fault that is found.
 use borrow.Author.Rules.{rules}
-use Rattle.tree.specs.Laws.{bad-mark, misfit, used-off, deep, fine}
+use Rattle.tree.specs.Laws.{bad_mark, misfit, used_off, deep, fine}
 use Rattle.tree.proofs.first_fault.Statement.{statement}
 use Rattle.tree.proofs.first_fault.Tie as tie
 
 returns : tie.Need-returns
 returns c =
     let at-args = c.before.before.before.args in
-    bad-mark at-args.text.now at-args.r _ _ _ c.before.marked.ensures c.if1.true
+    bad_mark at-args.text.now at-args.r _ _ _ c.before.marked.ensures c.if1.true
 
 returns-2 : tie.Need-returns-2
 returns-2 c =
@@ -21,7 +21,7 @@ returns-3 c =
     let at-marked = c.before.before.before.before.before.marked in
     let at-if1 = c.before.before.before.before.if1 in
     let at-kind-fits = c.before.before.before.kind-fits in
-    used-off at-args.text.now at-args.r _ _ _ at-marked.ensures at-if1.false _ at-kind-fits.ensures c.before.before.if2.false _ c.before.used-fault.ensures c.if3.true
+    used_off at-args.text.now at-args.r _ _ _ at-marked.ensures at-if1.false _ at-kind-fits.ensures c.before.before.if2.false _ c.before.used-fault.ensures c.if3.true
 
 returns-4 : tie.Need-returns-4
 returns-4 c =

@@ -1,7 +1,7 @@
 -- `tree::used_fault` meets its contract: bytes that are zero, each test that fails, and all.
 use borrow.Author.Rules.{rules}
 use mathlib.Core.Path.{sym, ◌∙◌}
-use Rattle.tree.specs.Laws.{all-zero, fields-off, range-off, part_off, sound}
+use Rattle.tree.specs.Laws.{all_zero, fields_off, range_off, part_off, sound}
 use Rattle.tree.proofs.used_fault.Statement.{statement}
 use Rattle.tree.proofs.used_fault.Tie as tie
 
@@ -9,12 +9,12 @@ returns : tie.Need-returns
 returns c =
     let at-args = c.before.before.before.args in
     let at_pre = c.before.before.before.requires in
-    all-zero at-args.text.now _ at-args.r at_pre.1 (sym c.before.zeros.ensures ∙ c.if1.true)
+    all_zero at-args.text.now _ at-args.r at_pre.1 (sym c.before.zeros.ensures ∙ c.if1.true)
 
 returns-2 : tie.Need-returns-2
 returns-2 c =
     let at-args = c.before.before.before.before.before.args in
-    fields-off at-args.text.now _ at-args.r _ c.before.fields_fit.ensures c.if2.true
+    fields_off at-args.text.now _ at-args.r _ c.before.fields_fit.ensures c.if2.true
 
 range-fits-requires : tie.Need-range-fits-requires
 range-fits-requires c κs =
@@ -25,7 +25,7 @@ returns-3 : tie.Need-returns-3
 returns-3 c =
     let at-args = c.before.before.before.before.before.before.before.args in
     let at-fields-fit = c.before.before.before.fields_fit in
-    range-off at-args.text.now _ at-args.r _ at-fields-fit.ensures c.before.before.if2.false _ c.before.range-fits.ensures c.if3.true
+    range_off at-args.text.now _ at-args.r _ at-fields-fit.ensures c.before.before.if2.false _ c.before.range-fits.ensures c.if3.true
 
 returns-4 : tie.Need-returns-4
 returns-4 c =

@@ -1,6 +1,6 @@
 -- `utf8::check` meets its contract. The loop's invariant: `i` is within the bytes, and those before it are a text; what is left falls with each turn.
 -- It begins with plain bytes. A turn finds how far the text goes on, or that no character is there, and the longest text ends at `i` (`Turn`);
--- what is then said of the bytes to the end is `broken-encoded`. Assumes nothing.
+-- what is then said of the bytes to the end is `broken_encoded`. Assumes nothing.
 use Prim.Native.Nat.{◌≤◌, ◌-◌}
 use native.Mathlib.Omega.{arith}
 use lib.ListN.{length, take}
@@ -8,8 +8,8 @@ use lib.Seq.{take_all}
 use borrow.Author.Rules.{rules}
 use Rattle.laws.specs.Rest.{rest}
 use Rattle.utf8.specs.Rfc3629.{Text}
-use Rattle.utf8.specs.Beginnings.{broken-encoded}
-use Rattle.utf8.specs.Plain.{plain-text}
+use Rattle.utf8.specs.Beginnings.{broken_encoded}
+use Rattle.utf8.specs.Plain.{plain_text}
 use Rattle.utf8.proofs.Turn.{some_left, stops, goes_on}
 use Rattle.utf8.proofs.check.Statement.{statement}
 use Rattle.utf8.proofs.check.Tie as tie
@@ -26,7 +26,7 @@ plain-start-requires c κs = search rules
 loop-holds : tie.Need-loop-init invariant-loop decreases-loop
 loop-holds c =
     let start = c.plain-start in
-    (start.ensures.0, plain-text (take start.result c.before.before.args.s.now) start.ensures.1)
+    (start.ensures.0, plain_text (take start.result c.before.before.args.s.now) start.ensures.1)
 
 sub-next-len : tie.Need-overflow-sub-next-len invariant-loop decreases-loop
 sub-next-len c = search rules
@@ -61,7 +61,7 @@ returns c =
     let found = c.before.before.before.next-len in
     let at = loop.i in
     rw (c.broken.ensures, rest s at)
-    (broken-encoded s at (more, stops s at more loop.invariant.1 found.result found.ensures c.before.before.if1.true))
+    (broken_encoded s at (more, stops s at more loop.invariant.1 found.result found.ensures c.before.before.if1.true))
 
 loop-again : tie.Need-loop-preserved invariant-loop decreases-loop
 loop-again c =

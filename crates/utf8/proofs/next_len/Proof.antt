@@ -7,9 +7,9 @@ use lib.ListN.{length, get_or}
 use borrow.Author.Rules.{rules}
 use Rattle.laws.specs.Rest.{rest}
 use Rattle.utf8.specs.Scan.{counted}
-use Rattle.utf8.specs.Characters.{ones-0}
-use Rattle.utf8.specs.Plain.{plain-within}
-use Rattle.utf8.proofs.Turn.{goes-width, goes-far}
+use Rattle.utf8.specs.Characters.{ones_0}
+use Rattle.utf8.specs.Plain.{plain_within}
+use Rattle.utf8.proofs.Turn.{goes_width, goes_far}
 use Rattle.utf8.proofs.Ways.{by_ones}
 use Rattle.utf8.proofs.next_len.Statement.{statement}
 use Rattle.utf8.proofs.next_len.Tie as tie
@@ -25,17 +25,17 @@ unfolding counted
 returns c =
     let start = c.before.before.before.before in
     let s = start.args.s.now in
-    let low = plain-within (get_or s 0 0) (sym c.before.plain_byte.ensures ∙ c.if1.true) in
-    goes-width s 1 (rw (by_ones s 0 start.requires (sym (ones-0 (get_or s 0 0) (omega arith)))))
+    let low = plain_within (get_or s 0 0) (sym c.before.plain_byte.ensures ∙ c.if1.true) in
+    goes_width s 1 (rw (by_ones s 0 start.requires (sym (ones_0 (get_or s 0 0) (omega arith)))))
 
 char-len-requires : tie.Need-char-len-requires
 char-len-requires c κs = search rules
 
 returns-2 : tie.Need-returns-2
-returns-2 c = goes-width c.before.before.before.before.before.before.args.s.now 0 (sym c.if2.true ∙ c.before.char-len.ensures)
+returns-2 c = goes_width c.before.before.before.before.before.before.args.s.now 0 (sym c.if2.true ∙ c.before.char-len.ensures)
 
 fits : (c : tie.Else2) → c.before.char-len.result ≤ length c.before.before.before.before.before.before.args.s.now
-fits c = ((goes-width c.before.before.before.before.before.before.args.s.now c.before.char-len.result c.before.char-len.ensures).1 c.if2.false).0
+fits c = ((goes_width c.before.before.before.before.before.before.args.s.now c.before.char-len.result c.before.char-len.ensures).1 c.if2.false).0
 
 sub-blocks : tie.Need-overflow-sub-blocks
 sub-blocks c = omega (arith, fits c)
@@ -54,7 +54,7 @@ returns-3 c =
     let s = c.before.before.before.before.before.before.before.before.args.s.now in
     let char = c.before.before.before.char-len in
     let more = c.blocks2 in
-    goes-far s char.result more.result (goes-width s char.result char.ensures) c.before.before.if2.false
+    goes_far s char.result more.result (goes_width s char.result char.ensures) c.before.before.if2.false
     (rw (rest s char.result) at more.ensures.within) (rw (rest s char.result) at more.ensures.plain)
 
 add-result : tie.Need-overflow-add-result

@@ -7,22 +7,22 @@ use native.Mathlib.Omega.{arith}
 use lib.ListN.{length, take}
 use borrow.Author.Rules.{rules}
 use borrow.Author.Tests.{not-true, not-false}
-use Rattle.laws.specs.Rest.{left-of}
-use Rattle.utf8.specs.Plain.{allPlain, none-plain, both, stop, stop-short}
+use Rattle.laws.specs.Rest.{left_of}
+use Rattle.utf8.specs.Plain.{all_plain, none_plain, both, stop, stop_short}
 use Rattle.utf8.proofs.pages.Statement.{statement}
 use Rattle.utf8.proofs.pages.Tie as tie
 
 abbrev invariant-loop : tie.invariant-loop
-invariant-loop s i₀ i = (i ≤ length s) × (allPlain (take i s) ≡ true)
+invariant-loop s i₀ i = (i ≤ length s) × (all_plain (take i s) ≡ true)
 
 abbrev decreases-loop : tie.decreases-loop
 decreases-loop s i₀ i = length s - i
 
 loop-holds : tie.Need-loop-init invariant-loop decreases-loop
-loop-holds c = (omega arith, sym (none-plain (take 0 c.before.args.s.now) (omega arith)))
+loop-holds c = (omega arith, sym (none_plain (take 0 c.before.args.s.now) (omega arith)))
 
 plain-page-requires : tie.Need-plain-page-requires invariant-loop decreases-loop
-plain-page-requires c κs = left-of c.before.before.before.before.args.s.now c.before.before.loop.i 64 (omega (arith, c.before.loop-test.true))
+plain-page-requires c κs = left_of c.before.before.before.before.args.s.now c.before.before.loop.i 64 (omega (arith, c.before.loop-test.true))
 
 returns : tie.Need-returns invariant-loop decreases-loop
 returns c =
@@ -50,7 +50,7 @@ loop-less c = omega (arith, loop-again c)
 returns-2 : tie.Need-returns-2 invariant-loop decreases-loop
 returns-2 c =
     let loop = c.before.loop in
-    stop-short c.before.before.before.args.s.now loop.i 64 loop.invariant.0 loop.invariant.1 (omega (arith, c.loop-test.false))
+    stop_short c.before.before.before.args.s.now loop.i 64 loop.invariant.0 loop.invariant.1 (omega (arith, c.loop-test.false))
 
 pub pages-spec : {M : Type 1} → statement M
 pages-spec =

@@ -1,12 +1,12 @@
 -- `utf8::plain_three` meets its contract: of up to three bytes each is the first, the middle or the last. Assumes nothing.
 use native.Mathlib.Omega.{arith}
 use borrow.Author.Rules.{rules}
-use Rattle.utf8.specs.Plain.{none-plain, three-plain}
+use Rattle.utf8.specs.Plain.{none_plain, three_plain}
 use Rattle.utf8.proofs.plain_three.Statement.{statement}
 use Rattle.utf8.proofs.plain_three.Tie as tie
 
 returns : tie.Need-returns
-returns c = none-plain c.before.before.args.s.now c.if1.true
+returns c = none_plain c.before.before.args.s.now c.if1.true
 
 returns-2 : tie.Need-returns-2
 returns-2 c =
@@ -16,7 +16,7 @@ returns-2 c =
     let start = at-if1.before.before in
     let some = at-if1.if1.false in
     rw (first.plain_byte.ensures, middle.plain-byte2.ensures, c.plain-byte3.ensures)
-    (three-plain start.args.s.now (omega arith) start.requires)
+    (three_plain start.args.s.now (omega arith) start.requires)
 
 pub plain-three-spec : {M : Type 1} → statement M
 plain-three-spec =

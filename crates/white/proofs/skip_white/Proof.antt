@@ -3,15 +3,15 @@ use Prim.Native.Nat.{◌≤◌, ◌-◌}
 use native.Mathlib.Omega.{arith}
 use mathlib.Core.Path.{◌≡◌, refl, ◌∙◌}
 use lib.ListN.{length, drop}
-use Rattle.white.specs.White.{whiteLength}
-use Rattle.white.specs.Steps.{partsFrom}
-use Rattle.white.proofs.Runs.{white-le, over-white}
+use Rattle.white.specs.White.{white_length}
+use Rattle.white.specs.Steps.{parts_from}
+use Rattle.white.proofs.Runs.{white_le, over_white}
 use borrow.Author.Rules.{rules}
 use Rattle.white.proofs.skip_white.Statement.{statement}
 use Rattle.white.proofs.skip_white.Tie as tie
 
 abbrev invariant-loop : tie.invariant-loop
-invariant-loop s at i₀ n₀ i n = (at ≤ i) × (i ≤ length s) × (n ≡ whiteLength (drop i s)) × (partsFrom s i 0 ≡ partsFrom s at 0)
+invariant-loop s at i₀ n₀ i n = (at ≤ i) × (i ≤ length s) × (n ≡ white_length (drop i s)) × (parts_from s i 0 ≡ parts_from s at 0)
 
 abbrev decreases-loop : tie.decreases-loop
 decreases-loop s at i₀ n₀ i n = length s - i
@@ -20,16 +20,16 @@ loop-holds : tie.Need-loop-init invariant-loop decreases-loop
 loop-holds c = (search rules, search rules, c.white-length.ensures, refl)
 
 add-i : tie.Need-overflow-add-i invariant-loop decreases-loop
-add-i c = omega (arith, white-le c.before.before.before.before.args.s.now c.before.loop.i)
+add-i c = omega (arith, white_le c.before.before.before.before.args.s.now c.before.loop.i)
 
 loop-less : tie.Need-loop-smaller invariant-loop decreases-loop
-loop-less c = omega (arith, white-le c.before.before.before.before.before.args.s.now c.before.before.loop.i)
+loop-less c = omega (arith, white_le c.before.before.before.before.before.args.s.now c.before.before.loop.i)
 
 loop-again : tie.Need-loop-preserved invariant-loop decreases-loop
 loop-again c =
     let at-args = c.before.before.before.before.before.args in
     let at-loop = c.before.before.loop in
-    (omega arith, omega (arith, white-le at-args.s.now at-loop.i), c.white-length2.ensures, over-white _ _ _ at-loop.invariant.2 c.before.loop-test.true at-loop.invariant.1 ∙ at-loop.invariant.3)
+    (omega arith, omega (arith, white_le at-args.s.now at-loop.i), c.white-length2.ensures, over_white _ _ _ at-loop.invariant.2 c.before.loop-test.true at-loop.invariant.1 ∙ at-loop.invariant.3)
 
 returns : tie.Need-returns invariant-loop decreases-loop
 returns c =

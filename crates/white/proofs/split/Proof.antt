@@ -3,14 +3,14 @@ use Prim.Native.Nat.{◌≤◌, ◌-◌}
 use native.Mathlib.Omega.{arith}
 use mathlib.Core.Path.{◌≡◌}
 use lib.ListN.{length, drop}
-use Rattle.white.specs.White.{whiteLength}
-use Rattle.white.proofs.Count.{Passed, none_passed, one-passed, all-passed}
+use Rattle.white.specs.White.{white_length}
+use Rattle.white.proofs.Count.{Passed, none_passed, one_passed, all_passed}
 use borrow.Author.Rules.{rules}
 use Rattle.white.proofs.split.Statement.{statement}
 use Rattle.white.proofs.split.Tie as tie
 
 abbrev invariant-loop : tie.invariant-loop
-invariant-loop s p₀ at₀ p at = (at ≤ length s) × (whiteLength (drop at s) ≡ 0) × Passed s p at
+invariant-loop s p₀ at₀ p at = (at ≤ length s) × (white_length (drop at s) ≡ 0) × Passed s p at
 
 abbrev decreases-loop : tie.decreases-loop
 decreases-loop s p₀ at₀ p at = length s - at
@@ -34,10 +34,10 @@ loop-again : tie.Need-loop-preserved invariant-loop decreases-loop
 loop-again c =
     let at-loop = c.before.before.before.before.loop in
     let at-skip-part = c.before.before.skip-part in
-    (c.skip-white2.ensures.within, c.skip-white2.ensures.none, one-passed _ _ _ _ _ _ at-loop.invariant.2 at-skip-part.ensures c.before.count-part.ensures c.skip-white2.ensures)
+    (c.skip-white2.ensures.within, c.skip-white2.ensures.none, one_passed _ _ _ _ _ _ at-loop.invariant.2 at-skip-part.ensures c.before.count-part.ensures c.skip-white2.ensures)
 
 returns : tie.Need-returns invariant-loop decreases-loop
-returns c = all-passed _ _ _ c.loop-test.false c.before.loop.invariant.2
+returns c = all_passed _ _ _ c.loop-test.false c.before.loop.invariant.2
 
 pub split-spec : {M : Type 1} → statement M
 split-spec =

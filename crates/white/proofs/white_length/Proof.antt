@@ -1,6 +1,6 @@
 -- `white::white_length` meets its contract: the characters of one byte come first among the 25, then those of two and of three, and each test says whether one of its length is there.
 use mathlib.Core.Path.{sym}
-use Rattle.white.proofs.Lengths.{past_end, is_one, one_left, is-two, two-left, is-three, is_none}
+use Rattle.white.proofs.Lengths.{past_end, is_one, one_left, is_two, two_left, is_three, is_none}
 use borrow.Author.Rules.{rules}
 use Rattle.white.proofs.white_length.Statement.{statement}
 use Rattle.white.proofs.white_length.Tie as tie
@@ -24,7 +24,7 @@ returns-4 c =
     let at-if2 = c.before.before.before.before.if2 in
     let at-if3 = c.before.before.before.if3 in
     sym
-    (is-two _ _ at-if1.false _ at_one.ensures at-if2.false at-if3.false _ c.before.two.ensures c.if4.true)
+    (is_two _ _ at-if1.false _ at_one.ensures at-if2.false at-if3.false _ c.before.two.ensures c.if4.true)
 
 returns-5 : tie.Need-returns-5
 returns-5 c =
@@ -34,7 +34,7 @@ returns-5 c =
     let at-if3 = c.before.before.before.before.if3 in
     let at-two = c.before.before.two in
     sym
-    (two-left _ _ at-if1.false _ at_one.ensures at-if2.false at-if3.false _ at-two.ensures c.before.if4.false c.if5.true)
+    (two_left _ _ at-if1.false _ at_one.ensures at-if2.false at-if3.false _ at-two.ensures c.before.if4.false c.if5.true)
 
 returns-6 : tie.Need-returns-6
 returns-6 c =
@@ -46,7 +46,7 @@ returns-6 c =
     let at-if4 = c.before.before.before.before.if4 in
     let at-if5 = c.before.before.before.if5 in
     sym
-    (is-three _ _ at-if1.false _ at_one.ensures at-if2.false at-if3.false _ at-two.ensures at-if4.false at-if5.false _ c.before.three.ensures c.if6.true)
+    (is_three _ _ at-if1.false _ at_one.ensures at-if2.false at-if3.false _ at-two.ensures at-if4.false at-if5.false _ c.before.three.ensures c.if6.true)
 
 returns-7 : tie.Need-returns-7
 returns-7 c =

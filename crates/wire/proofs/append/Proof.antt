@@ -3,13 +3,13 @@
 use native.Mathlib.Omega.{arith}
 use mathlib.Core.Path.{sym, ◌∙◌}
 use borrow.Author.Tests.{not-false}
-use Rattle.wire.specs.Laws.{not-well}
+use Rattle.wire.specs.Laws.{not_well}
 use borrow.Author.Rules.{rules}
 use Rattle.wire.proofs.append.Statement.{statement}
 use Rattle.wire.proofs.append.Tie as tie
 
 returns : tie.Need-returns
-returns c = not-well _ _ _ _ _ _ c.before.before.well-formed-2.ensures c.before.if1.true c.code.ensures
+returns c = not_well _ _ _ _ _ _ c.before.before.well-formed-2.ensures c.before.if1.true c.code.ensures
 
 unpack-requires : tie.Need-unpack-requires
 unpack-requires c κs = let at-if1 = c.before in sym at-if1.before.well-formed-2.ensures ∙ not-false _ at-if1.if1.false

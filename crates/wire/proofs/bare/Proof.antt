@@ -1,6 +1,6 @@
 -- `wire::bare` meets its contract: the token was laid at once, which is to append it, or nothing was done and `checked` has the answer.
-use Rattle.quick.specs.Laws.{word-done, not_done}
-use Rattle.wire.specs.Laws.{is_held, may-be-laid, laid-crosses, then-crosses}
+use Rattle.quick.specs.Laws.{word_done, not_done}
+use Rattle.wire.specs.Laws.{is_held, may_be_laid, laid_crosses, then_crosses}
 use borrow.Author.Rules.{rules}
 use Rattle.wire.proofs.bare.Statement.{statement}
 use Rattle.wire.proofs.bare.Tie as tie
@@ -12,8 +12,8 @@ laid-requires c κs =
     let at-unpack = at-quick.before.before in
     let start = at-unpack.before.before.before.before.before in
     let held = is_held at-unpack.unpack.result (rw at-unpack.unpack.ensures start.requires.1.0) in
-    let done = word-done _ start.args.out.now _ start.args.value.now _ _ _ held start.requires.1.1 at-quick.word-alone.ensures at_told.q.given.1 in
-    may-be-laid start.args.rec.now _ _ start.requires.0 at-unpack.unpack.ensures held done.on
+    let done = word_done _ start.args.out.now _ start.args.value.now _ _ _ held start.requires.1.1 at-quick.word-alone.ensures at_told.q.given.1 in
+    may_be_laid start.args.rec.now _ _ start.requires.0 at-unpack.unpack.ensures held done.on
 
 returns : tie.Need-returns
 returns c =
@@ -23,15 +23,15 @@ returns c =
     let at-unpack = at-quick.before.before in
     let start = at-unpack.before.before.before.before.before in
     let held = is_held at-unpack.unpack.result (rw at-unpack.unpack.ensures start.requires.1.0) in
-    let done = word-done _ start.args.out.now _ start.args.value.now _ _ _ held start.requires.1.1 at-quick.word-alone.ensures at_told.q.given.1 in
-    laid-crosses _ _ _ _ _ _ _ _ _ start.requires.0 at-unpack.unpack.ensures done at-laid.laid.ensures.0 at-laid.laid.ensures.1
+    let done = word_done _ start.args.out.now _ start.args.value.now _ _ _ held start.requires.1.1 at-quick.word-alone.ensures at_told.q.given.1 in
+    laid_crosses _ _ _ _ _ _ _ _ _ start.requires.0 at-unpack.unpack.ensures done at-laid.laid.ensures.0 at-laid.laid.ensures.1
 
 returns-2 : tie.Need-returns-2
 returns-2 c =
     let at-checked = c.before.before.before.before in
     let at_told = at-checked.before.before.before in
     let at-quick = at_told.before.before.before.before in
-    then-crosses _ _ _ _ _ _ _ _ (not_done _ _ _ _ _ _ _ at-quick.word-alone.ensures at_told.enum_told.given.1) at-checked.checked.ensures
+    then_crosses _ _ _ _ _ _ _ _ (not_done _ _ _ _ _ _ _ at-quick.word-alone.ensures at_told.enum_told.given.1) at-checked.checked.ensures
 
 pub bare_spec : {M : Type 1} → statement M
 bare_spec =

@@ -1,6 +1,6 @@
 -- `wire::checked` meets its contract: a long value was laid at once, which is to append it, or nothing was done and all refusals are asked for.
-use Rattle.quick.specs.Laws.{value-done, not_done}
-use Rattle.wire.specs.Laws.{is_held, may-be-laid, tried-done, taken-laid, taken-crosses, laid-crosses, then-crosses}
+use Rattle.quick.specs.Laws.{value_done, not_done}
+use Rattle.wire.specs.Laws.{is_held, may_be_laid, tried_done, taken_laid, taken_crosses, laid_crosses, then_crosses}
 use borrow.Author.Rules.{rules}
 use Rattle.wire.proofs.checked.Statement.{statement}
 use Rattle.wire.proofs.checked.Tie as tie
@@ -11,10 +11,10 @@ laid-requires c κs =
     let at-quick = at_told.before.before.before.before in
     let at-unpack = at-quick.before.before in
     let start = at-unpack.before.before.before.before.before.before in
-    let tried = tried-done _ _ _ _ _ _ _ _ _ at-quick.long_tried.ensures at_told.q.given.1 in
+    let tried = tried_done _ _ _ _ _ _ _ _ _ at-quick.long_tried.ensures at_told.q.given.1 in
     let held = is_held at-unpack.unpack.result tried.0 in
-    let done = value-done _ _ start.args.out.now _ _ _ _ _ held tried.1 at_told.q.given.1 in
-    may-be-laid start.args.rec.now _ _ start.requires at-unpack.unpack.ensures held done.on
+    let done = value_done _ _ start.args.out.now _ _ _ _ _ held tried.1 at_told.q.given.1 in
+    may_be_laid start.args.rec.now _ _ start.requires at-unpack.unpack.ensures held done.on
 
 returns : tie.Need-returns
 returns c =
@@ -23,9 +23,9 @@ returns c =
     let at-quick = at_told.before.before.before.before in
     let at-unpack = at-quick.before.before in
     let start = at-unpack.before.before.before.before.before.before in
-    let tried = tried-done _ _ _ _ _ _ _ _ _ at-quick.long_tried.ensures at_told.q.given.1 in
-    let done = value-done _ _ start.args.out.now _ _ _ _ _ (is_held at-unpack.unpack.result tried.0) tried.1 at_told.q.given.1 in
-    laid-crosses _ _ _ _ _ _ _ _ _ start.requires at-unpack.unpack.ensures (taken-laid _ _ _ start.args.value.now _ _ done) at-laid.laid.ensures.0 at-laid.laid.ensures.1
+    let tried = tried_done _ _ _ _ _ _ _ _ _ at-quick.long_tried.ensures at_told.q.given.1 in
+    let done = value_done _ _ start.args.out.now _ _ _ _ _ (is_held at-unpack.unpack.result tried.0) tried.1 at_told.q.given.1 in
+    laid_crosses _ _ _ _ _ _ _ _ _ start.requires at-unpack.unpack.ensures (taken_laid _ _ _ start.args.value.now _ _ done) at-laid.laid.ensures.0 at-laid.laid.ensures.1
 
 returns-2 : tie.Need-returns-2
 returns-2 c =
@@ -33,8 +33,8 @@ returns-2 c =
     let at_told = at-asked.before.before.before in
     let at-quick = at_told.before.before.before.before in
     let start = at-quick.before.before.before.before.before.before.before.before in
-    then-crosses _ _ _ _ _ _ _ _ (not_done _ _ _ _ _ _ _ at-quick.long_tried.ensures at_told.enum_told.given.1)
-    (taken-crosses _ _ _ start.args.value.now _ _ _ at-asked.asked.ensures)
+    then_crosses _ _ _ _ _ _ _ _ (not_done _ _ _ _ _ _ _ at-quick.long_tried.ensures at_told.enum_told.given.1)
+    (taken_crosses _ _ _ start.args.value.now _ _ _ at-asked.asked.ensures)
 
 pub checked-spec : {M : Type 1} → statement M
 checked-spec =

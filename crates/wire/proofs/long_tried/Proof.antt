@@ -2,7 +2,7 @@
 use mathlib.Core.Path.{sym, ◌∙◌}
 use borrow.Author.Tests.{not-true, not-false}
 use Rattle.quick.specs.Laws.{nothing}
-use Rattle.wire.specs.Laws.{tried-not, tried}
+use Rattle.wire.specs.Laws.{tried_not, tried}
 use borrow.Author.Rules.{rules}
 use Rattle.wire.proofs.long_tried.Statement.{statement}
 use Rattle.wire.proofs.long_tried.Tie as tie
@@ -11,7 +11,7 @@ returns : tie.Need-returns
 returns c =
     let at_held = c.before in
     let start = at_held.before.before.before in
-    nothing _ start.args.rec start.args.out.now _ _ (tried-not _ _ (sym at_held.held.ensures ∙ not-true _ c.if1.true))
+    nothing _ start.args.rec start.args.out.now _ _ (tried_not _ _ (sym at_held.held.ensures ∙ not-true _ c.if1.true))
 
 returns-2 : tie.Need-returns-2
 returns-2 c =

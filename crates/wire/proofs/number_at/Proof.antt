@@ -1,6 +1,6 @@
 -- `wire::number_at` meets its contract: what is lent from the place on is the rest.
 use native.Mathlib.Omega.{arith}
-use Rattle.laws.specs.Rest.{rest, left-of}
+use Rattle.laws.specs.Rest.{rest, left_of}
 use borrow.Author.Rules.{rules}
 use Rattle.wire.proofs.number_at.Statement.{statement}
 use Rattle.wire.proofs.number_at.Tie as tie
@@ -8,7 +8,7 @@ use Rattle.wire.proofs.number_at.Tie as tie
 whole-requires : tie.Need-whole-requires
 whole-requires c κs =
     let start = c.before.before in
-    left-of start.args.rec.now start.args.at 8 (omega (arith, start.requires))
+    left_of start.args.rec.now start.args.at 8 (omega (arith, start.requires))
 
 returns : tie.Need-returns
 returns c =

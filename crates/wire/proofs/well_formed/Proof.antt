@@ -2,17 +2,17 @@
 use native.Mathlib.Omega.{arith}
 use lib.ListN.{length}
 use borrow.Author.Tests.{eq-eqb, ne_eqb}
-use Rattle.wire.specs.Wire.{wellFormed}
+use Rattle.wire.specs.Wire.{well_formed}
 use borrow.Author.Rules.{rules}
 use Rattle.wire.proofs.well_formed.Statement.{statement}
 use Rattle.wire.proofs.well_formed.Tie as tie
 
 returns : tie.Need-returns
-unfolding wellFormed
+unfolding well_formed
 returns c = rw (ne_eqb (length c.before.args.rec.now) 25 (λ h. omega (arith, h, c.if1.true)))
 
 returns-2 : tie.Need-returns-2
-unfolding wellFormed
+unfolding well_formed
 returns-2 c = rw (eq-eqb (length c.before.before.args.rec.now) 25 (omega (arith, c.before.if1.false)))
 
 pub well-formed-spec : {M : Type 1} → statement M

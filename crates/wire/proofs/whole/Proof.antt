@@ -1,6 +1,6 @@
 -- `wire::whole` meets its contract: two halves are a whole.
 use native.Mathlib.Omega.{arith}
-use Rattle.laws.specs.Rest.{left-of}
+use Rattle.laws.specs.Rest.{left_of}
 use Rattle.wire.specs.Laws.{is_whole}
 use borrow.Author.Rules.{rules}
 use Rattle.wire.proofs.whole.Statement.{statement}
@@ -12,7 +12,7 @@ half-requires c κs = omega (arith, c.before.requires)
 half-requires-2 : tie.Need-half-requires-2
 half-requires-2 c κs =
     let start = c.before.before.before in
-    left-of start.args.s.now 4 4 (omega (arith, start.requires))
+    left_of start.args.s.now 4 4 (omega (arith, start.requires))
 
 returns : tie.Need-returns
 returns c =

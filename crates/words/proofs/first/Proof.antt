@@ -4,7 +4,7 @@ use mathlib.Core.Path.{◌≡◌, sym, ap}
 use Rattle.laws.specs.Apart.{apart}
 use Rattle.spelling.specs.Rows.{rows}
 use Rattle.spelling.specs.Spelling.{spelling, row}
-use Rattle.spelling.specs.Table.{rowsHeld}
+use Rattle.spelling.specs.Table.{rows_held}
 use Rattle.words.specs.Words.{first, first_past}
 use Rattle.words.proofs.first.Statement.{statement}
 use Rattle.words.proofs.first.Tie as tie
@@ -13,7 +13,7 @@ line : {n k : ℕ} → n ≡ k → first k ≡ first n
 line e = sym (ap first e)
 
 past : tie.Need-returns-195
-past c = sym (first_past _ (apart rowsHeld _ c.match.rest))
+past c = sym (first_past _ (apart rows_held _ c.match.rest))
 
 pub first_spec : {M : Type 1} → statement M
 unfolding first spelling row rows

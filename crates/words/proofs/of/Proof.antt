@@ -1,7 +1,7 @@
 -- `words::of` meets its contract: the two numbers hold the spelling, and take as many bytes as it has.
 use native.Mathlib.Omega.{arith}
 use borrow.Author.Rules.{rules}
-use Rattle.words.specs.Words.{short-holds, short-takes, holds, takes, span-le}
+use Rattle.words.specs.Words.{short_holds, short_takes, holds, takes, span_le}
 use Rattle.words.proofs.of.Statement.{statement}
 use Rattle.words.proofs.of.Tie as tie
 
@@ -11,8 +11,8 @@ returns c =
     let at_first = at-span.before in
     let number = at_first.before.args.number in
     let less = c.before.if1.true in (
-      short-holds number at_first.first.ensures at-span.span.ensures less c.bytes_of.ensures,
-      short-takes number at_first.first.ensures at-span.span.ensures less,
+      short_holds number at_first.first.ensures at-span.span.ensures less c.bytes_of.ensures,
+      short_takes number at_first.first.ensures at-span.span.ensures less,
     )
 
 returns-2 : tie.Need-returns-2
@@ -27,7 +27,7 @@ returns-2 c =
     )
 
 add-t9 : tie.Need-overflow-add-t9
-add-t9 c = omega (arith, span-le _ c.before.before.before.before.span.ensures, span-le _ c.span2.ensures)
+add-t9 c = omega (arith, span_le _ c.before.before.before.before.span.ensures, span_le _ c.span2.ensures)
 
 pub of_spec : {M : Type 1} → statement M
 of_spec =

@@ -4,7 +4,7 @@ use mathlib.Core.Path.{◌≡◌, refl, sym, ap}
 use mathlib.Core.List.{[], ◌∷◌}
 use Rattle.spelling.specs.Rows.{rows}
 use Rattle.spelling.specs.Spelling.{spelling, row}
-use Rattle.words.specs.Words.{rest, no-rest}
+use Rattle.words.specs.Words.{rest, no_rest}
 use Rattle.words.proofs.rest.Statement.{statement}
 use Rattle.words.proofs.rest.Tie as tie
 
@@ -13,7 +13,7 @@ line e = sym (ap rest e)
 
 short : tie.Need-returns-20
 unfolding rest spelling row rows
-short c = sym (no-rest (186 ∷ 151 ∷ 138 ∷ 132 ∷ 127 ∷ 126 ∷ 120 ∷ 98 ∷ 96 ∷ 91 ∷ 89 ∷ 88 ∷ 87 ∷ 73 ∷ 65 ∷ 13 ∷ 9 ∷ 8 ∷ 6 ∷ []) _ refl c.match.rest)
+short c = sym (no_rest (186 ∷ 151 ∷ 138 ∷ 132 ∷ 127 ∷ 126 ∷ 120 ∷ 98 ∷ 96 ∷ 91 ∷ 89 ∷ 88 ∷ 87 ∷ 73 ∷ 65 ∷ 13 ∷ 9 ∷ 8 ∷ 6 ∷ []) _ refl c.match.rest)
 
 pub rest-spec : {M : Type 1} → statement M
 unfolding rest spelling row rows

@@ -1,7 +1,7 @@
 -- `constraint::constraint_name` passes over NONE.
 use borrow.Author.Rules.{rules}
 use Rattle.pen.specs.Laws.{◌▹◌}
-use Rattle.pen.specs.Places.{optional, given-none, given-some}
+use Rattle.pen.specs.Places.{optional, given_none, given_some}
 use Rattle.clause.proofs.constraint.constraint_name.Statement.{statement}
 use Rattle.clause.proofs.constraint.constraint_name.Tie as tie
 
@@ -9,7 +9,7 @@ returns : tie.Need-returns
 returns c d r =
     let at-if1 = c.before in
     let at_read = at-if1.before.before in
-    given-none at_read.read.ensures at-if1.if1.true c.pass.ensures
+    given_none at_read.read.ensures at-if1.if1.true c.pass.ensures
 
 returns-2 : tie.Need-returns-2
 returns-2 c d r =
@@ -17,7 +17,7 @@ returns-2 c d r =
     let at-word = at_name.before.before.before.before in
     let at-if1 = at-word.before.before in
     let at_read = at-if1.before.before in
-    given-some at_read.read.ensures at-if1.if1.false (at-word.word.ensures _ d r ▹ optional (at_name.name.ensures d r))
+    given_some at_read.read.ensures at-if1.if1.false (at-word.word.ensures _ d r ▹ optional (at_name.name.ensures d r))
 
 pub constraint-name-spec : {M : Type 1} → statement M
 constraint-name-spec =

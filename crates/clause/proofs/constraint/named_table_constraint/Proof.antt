@@ -2,7 +2,7 @@
 use borrow.Author.Rules.{rules}
 use mathlib.Core.Path.{refl}
 use Rattle.pen.specs.Laws.{◌▹◌}
-use Rattle.pen.specs.Places.{shut, opened, left-some, optional}
+use Rattle.pen.specs.Places.{shut, opened, left_some, optional}
 use Rattle.grammar.specs.Grammar.{shape}
 use Rattle.clause.proofs.constraint.named_table_constraint.Statement.{statement}
 use Rattle.clause.proofs.constraint.named_table_constraint.Tie as tie
@@ -17,7 +17,7 @@ returns c r =
 sub-table-constraint : tie.Need-overflow-sub-table-constraint
 sub-table-constraint c =
     let at-if1 = c.before.before.before.before.before.before in
-    left-some _ _ at-if1.if1.false
+    left_some _ _ at-if1.if1.false
 
 returns-2 : tie.Need-returns-2
 unfolding shape

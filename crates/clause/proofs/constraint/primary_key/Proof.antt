@@ -22,7 +22,7 @@ returns c d r h =
     ▹ (at-word3.word3.ensures _ d r
     ▹ (at-comma.comma.ensures d r ▹ at-word-if.word-if.ensures _ d r _ h)
     ▹ at-word4.word4.ensures _ d r)
-    ▹ at-on-conflict.on-conflict.ensures d r
+    ▹ at-on-conflict.on_conflict.ensures d r
 
 pub primary-key-spec : {M : Type 1} → statement M
 primary-key-spec =

@@ -4,7 +4,7 @@ use mathlib.Core.Path.{refl}
 use borrow.Author.Tests.{ne_eqb}
 use Rattle.grammar.specs.Grammar.{shape}
 use Rattle.grammar.specs.Kind.{PrimaryKey, Unique, Check, ForeignKey}
-use Rattle.pen.specs.Places.{shallow, other, node-on}
+use Rattle.pen.specs.Places.{shallow, other, node_on}
 use Rattle.clause.proofs.constraint.table_constraint.Statement.{statement}
 use Rattle.clause.proofs.constraint.table_constraint.Tie as tie
 
@@ -24,7 +24,7 @@ returns-2 c r =
     let at-pass = at-first-flag.before in
     let at-if1 = at-pass.before in
     let at_read = at-if1.before in
-    node-on at_read.read.ensures PrimaryKey at-if2.if2.true refl at-if1.if1.false at-pass.pass.ensures (at-primary-key.primary-key.ensures _ _ (at-first-flag.first-flag.ensures _ refl))
+    node_on at_read.read.ensures PrimaryKey at-if2.if2.true refl at-if1.if1.false at-pass.pass.ensures (at-primary-key.primary-key.ensures _ _ (at-first-flag.first-flag.ensures _ refl))
 
 returns-3 : tie.Need-returns-3
 unfolding shape
@@ -34,7 +34,7 @@ returns-3 c r =
     let at-pass = at-if3.before.before.before.before.before in
     let at-if1 = at-pass.before in
     let at_read = at-if1.before in
-    node-on at_read.read.ensures Unique at-if3.if3.true refl at-if1.if1.false at-pass.pass.ensures (at-unique.unique.ensures _ _)
+    node_on at_read.read.ensures Unique at-if3.if3.true refl at-if1.if1.false at-pass.pass.ensures (at-unique.unique.ensures _ _)
 
 returns-4 : tie.Need-returns-4
 unfolding shape
@@ -44,7 +44,7 @@ returns-4 c r =
     let at-pass = at-if4.before.before.before.before.before.before.before in
     let at-if1 = at-pass.before in
     let at_read = at-if1.before in
-    node-on at_read.read.ensures Check at-if4.if4.true refl at-if1.if1.false at-pass.pass.ensures (at-check.check.ensures _ _)
+    node_on at_read.read.ensures Check at-if4.if4.true refl at-if1.if1.false at-pass.pass.ensures (at-check.check.ensures _ _)
 
 returns-5 : tie.Need-returns-5
 unfolding shape
@@ -54,7 +54,7 @@ returns-5 c r =
     let at-pass = at-if5.before.before.before.before.before.before.before.before.before in
     let at-if1 = at-pass.before in
     let at_read = at-if1.before in
-    node-on at_read.read.ensures ForeignKey at-if5.if5.true refl at-if1.if1.false at-pass.pass.ensures (at-foreign-key.foreign-key.ensures _)
+    node_on at_read.read.ensures ForeignKey at-if5.if5.true refl at-if1.if1.false at-pass.pass.ensures (at-foreign-key.foreign-key.ensures _)
 
 returns-6 : tie.Need-returns-6
 returns-6 c r =

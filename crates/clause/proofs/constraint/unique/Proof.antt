@@ -13,7 +13,7 @@ returns c d r =
     let at-word = at-in-parens.before.before.before.before in
     at-word.word.ensures _ d r
     ▹ at-in-parens.in-parens.ensures d r
-    ▹ at-on-conflict.on-conflict.ensures d r
+    ▹ at-on-conflict.on_conflict.ensures d r
 
 pub unique-spec : {M : Type 1} → statement M
 unique-spec =

@@ -5,7 +5,7 @@ use borrow.Author.Tests.{ne_eqb}
 use Rattle.grammar.specs.Grammar.{shape}
 use Rattle.grammar.specs.Kind.{ColumnsAndConstraints, AsSelect}
 use Rattle.pen.specs.Laws.{in_one}
-use Rattle.pen.specs.Places.{shallow, other, node-on}
+use Rattle.pen.specs.Places.{shallow, other, node_on}
 use Rattle.clause.proofs.create_table.create_table_body.Statement.{statement}
 use Rattle.clause.proofs.create_table.create_table_body.Tie as tie
 
@@ -24,7 +24,7 @@ returns-2 c r =
     let at-pass = at-if2.before.before in
     let at-if1 = at-pass.before in
     let at_read = at-if1.before in
-    node-on at_read.read.ensures ColumnsAndConstraints at-if2.if2.true refl at-if1.if1.false at-pass.pass.ensures (at-columns-and-constraints.columns-and-constraints.ensures _)
+    node_on at_read.read.ensures ColumnsAndConstraints at-if2.if2.true refl at-if1.if1.false at-pass.pass.ensures (at-columns-and-constraints.columns-and-constraints.ensures _)
 
 returns-3 : tie.Need-returns-3
 unfolding shape
@@ -34,7 +34,7 @@ returns-3 c r =
     let at-pass = at-if3.before.before.before.before in
     let at-if1 = at-pass.before in
     let at_read = at-if1.before in
-    node-on at_read.read.ensures AsSelect at-if3.if3.true refl at-if1.if1.false at-pass.pass.ensures (in_one (at-as-select.as-select.ensures _))
+    node_on at_read.read.ensures AsSelect at-if3.if3.true refl at-if1.if1.false at-pass.pass.ensures (in_one (at-as-select.as-select.ensures _))
 
 returns-4 : tie.Need-returns-4
 returns-4 c r =

@@ -5,7 +5,7 @@ use borrow.Author.Tests.{ne_eqb}
 use Rattle.grammar.specs.Grammar.{shape}
 use Rattle.grammar.specs.Kind.{Struct, Union, CustomType}
 use Rattle.pen.specs.Laws.{in_one}
-use Rattle.pen.specs.Places.{shallow, other, node-on}
+use Rattle.pen.specs.Places.{shallow, other, node_on}
 use Rattle.clause.proofs.custom.create_type_body.Statement.{statement}
 use Rattle.clause.proofs.custom.create_type_body.Tie as tie
 
@@ -24,7 +24,7 @@ returns-2 c r =
     let at-pass = at-if2.before.before in
     let at-if1 = at-pass.before in
     let at_read = at-if1.before in
-    node-on at_read.read.ensures Struct at-if2.if2.true refl at-if1.if1.false at-pass.pass.ensures (in_one (at-type-fields.type-fields.ensures _ refl _))
+    node_on at_read.read.ensures Struct at-if2.if2.true refl at-if1.if1.false at-pass.pass.ensures (in_one (at-type-fields.type-fields.ensures _ refl _))
 
 returns-3 : tie.Need-returns-3
 unfolding shape
@@ -34,7 +34,7 @@ returns-3 c r =
     let at-pass = at-if3.before.before.before.before in
     let at-if1 = at-pass.before in
     let at_read = at-if1.before in
-    node-on at_read.read.ensures Union at-if3.if3.true refl at-if1.if1.false at-pass.pass.ensures (in_one (at-type-fields2.type-fields2.ensures _ refl _))
+    node_on at_read.read.ensures Union at-if3.if3.true refl at-if1.if1.false at-pass.pass.ensures (in_one (at-type-fields2.type-fields2.ensures _ refl _))
 
 returns-4 : tie.Need-returns-4
 unfolding shape
@@ -44,7 +44,7 @@ returns-4 c r =
     let at-pass = at-if4.before.before.before.before.before.before in
     let at-if1 = at-pass.before in
     let at_read = at-if1.before in
-    node-on at_read.read.ensures CustomType at-if4.if4.true refl at-if1.if1.false at-pass.pass.ensures (at-custom-type.custom-type.ensures _)
+    node_on at_read.read.ensures CustomType at-if4.if4.true refl at-if1.if1.false at-pass.pass.ensures (at-custom-type.custom-type.ensures _)
 
 returns-5 : tie.Need-returns-5
 returns-5 c r =

@@ -1,7 +1,7 @@
 -- `custom::custom_type` writes its entry, a step a call.
 use borrow.Author.Rules.{rules}
-use Rattle.pen.specs.Laws.{◌▹◌, a-said, same, in_one}
-use Rattle.parts.specs.Laws.{said-clause}
+use Rattle.pen.specs.Laws.{◌▹◌, a_said, same, in_one}
+use Rattle.parts.specs.Laws.{said_clause}
 use Rattle.grammar.specs.Grammar.{shape}
 use mathlib.Core.Path.{refl}
 use Rattle.record.specs.Laws.{nothing as blank}
@@ -18,10 +18,10 @@ returns c r =
     let at-said = at_name.before.before.before.before in
     let at-params = at-said.before.before.before.before.before in
     in_one (at-params.params.ensures r)
-    ▹ a-said _ refl at-said.said.ensures
+    ▹ a_said _ refl at-said.said.ensures
     ▹ in_one (at_name.name.ensures _ r)
-    ▹ in_one (said-clause _ refl at-said-clause.said-clause.ensures)
-    ▹ in_one (said-clause _ refl at-said-clause2.said-clause2.ensures)
+    ▹ in_one (said_clause _ refl at-said-clause.said_clause.ensures)
+    ▹ in_one (said_clause _ refl at-said-clause2.said-clause2.ensures)
     ▹ at-default-first.default-first.ensures r
 
 pub custom-type-spec : {M : Type 1} → statement M

@@ -2,8 +2,8 @@
 use borrow.Author.Rules.{rules}
 use mathlib.Core.Path.{refl}
 use Rattle.pen.specs.Laws.{in_one}
-use Rattle.parts.specs.Laws.{said-clause}
-use Rattle.clause.specs.Later.{later-written}
+use Rattle.parts.specs.Laws.{said_clause}
+use Rattle.clause.specs.Later.{later_written}
 use Rattle.clause.proofs.custom.default_first.Statement.{statement}
 use Rattle.clause.proofs.custom.default_first.Tie as tie
 
@@ -12,7 +12,7 @@ returns c r =
     let at-list2 = c.before.before.before in
     let at-said-clause = at-list2.before.before.before.before.before in
     let at-list = at-said-clause.before.before.before.before.before in
-    later-written (at-list.operators.ensures r) (in_one (said-clause _ refl at-said-clause.said-clause.ensures)) (at-list2.operators2.ensures r)
+    later_written (at-list.operators.ensures r) (in_one (said_clause _ refl at-said-clause.said_clause.ensures)) (at-list2.operators2.ensures r)
 
 pub default-first-spec : {M : Type 1} → statement M
 default-first-spec =

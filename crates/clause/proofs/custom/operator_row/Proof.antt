@@ -8,16 +8,16 @@ use Rattle.record.specs.Laws.{nothing as blank}
 use Rattle.grammar.specs.Kind.{OperatorClause}
 use Rattle.grammar.specs.Grammar as grammar
 use Rattle.tokens.specs.Tokens.{rows, placed, means, node}
-use Rattle.pen.specs.Pen.{source_of, sourceIn, put}
-use Rattle.pen.specs.Laws.{puts-length}
+use Rattle.pen.specs.Pen.{source_of, source_in, put}
+use Rattle.pen.specs.Laws.{puts_length}
 use Rattle.pen.specs.Rows.{nothing, row_first, row_done}
 use Rattle.clause.proofs.custom.operator_row.Statement.{statement}
 use Rattle.clause.proofs.custom.operator_row.Tie as tie
 
 abbrev invariant-loop : tie.invariant-loop
 invariant-loop out₀ pool tree text left n edition q₀ rest₀ out q rest =
-    (v : Edition) → put pool (rows (placed (source_of v (sourceIn tree text edition)) (node (source_of v (sourceIn tree text edition)) left) (grammar.node (OperatorClause ∷ []))) [] [] rest q.next) (q, out)
-    ≡ put pool (rows (placed (source_of v (sourceIn tree text edition)) (node (source_of v (sourceIn tree text edition)) left) (grammar.node (OperatorClause ∷ []))) [] [] n q₀.next) (q₀, out₀)
+    (v : Edition) → put pool (rows (placed (source_of v (source_in tree text edition)) (node (source_of v (source_in tree text edition)) left) (grammar.node (OperatorClause ∷ []))) [] [] rest q.next) (q, out)
+    ≡ put pool (rows (placed (source_of v (source_in tree text edition)) (node (source_of v (source_in tree text edition)) left) (grammar.node (OperatorClause ∷ []))) [] [] n q₀.next) (q₀, out₀)
 
 abbrev decreases-loop : tie.decreases-loop
 decreases-loop out₀ pool tree text left n edition q₀ rest₀ out q rest = rest
@@ -40,4 +40,4 @@ operator-row-spec =
     tie.close
     (tie.spec
     invariant-loop decreases-loop (λ c v. refl) (λ c κs. search rules) (λ c. search rules) (λ c. search rules)
-    loop-again (λ c. puts-length (returns c Crate)) returns)
+    loop-again (λ c. puts_length (returns c Crate)) returns)

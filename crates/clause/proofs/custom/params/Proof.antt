@@ -1,6 +1,6 @@
 -- `custom::params` passes over an empty LIST.
 use borrow.Author.Rules.{rules}
-use Rattle.pen.specs.Places.{filled_none, filled-some}
+use Rattle.pen.specs.Places.{filled_none, filled_some}
 use Rattle.clause.specs.Held.{held}
 use Rattle.clause.proofs.custom.params.Statement.{statement}
 use Rattle.clause.proofs.custom.params.Tie as tie
@@ -17,7 +17,7 @@ returns-2 c r =
     let at-list = c.before.before in
     let at-if1 = at-list.before.before in
     let at_read = at-if1.before.before in
-    filled-some at_read.read.ensures at-if1.if1.false (at-list.list-in-parens.ensures r)
+    filled_some at_read.read.ensures at-if1.if1.false (at-list.list-in-parens.ensures r)
 
 pub params-spec : {M : Type 1} → statement M
 params-spec =

@@ -4,7 +4,7 @@ use mathlib.Core.Path.{refl}
 use borrow.Author.Tests.{ne_eqb}
 use Rattle.grammar.specs.Grammar.{shape}
 use Rattle.grammar.specs.Kind.{On, Using}
-use Rattle.pen.specs.Places.{shallow, other, node-on}
+use Rattle.pen.specs.Places.{shallow, other, node_on}
 use Rattle.clause.proofs.join.join_constraint.Statement.{statement}
 use Rattle.clause.proofs.join.join_constraint.Tie as tie
 
@@ -23,7 +23,7 @@ returns-2 c r =
     let at-pass = at-if2.before.before in
     let at-if1 = at-pass.before in
     let at_read = at-if1.before in
-    node-on at_read.read.ensures On at-if2.if2.true refl at-if1.if1.false at-pass.pass.ensures (at_on.on.ensures _ _)
+    node_on at_read.read.ensures On at-if2.if2.true refl at-if1.if1.false at-pass.pass.ensures (at_on.on.ensures _ _)
 
 returns-3 : tie.Need-returns-3
 unfolding shape
@@ -33,7 +33,7 @@ returns-3 c r =
     let at-pass = at-if3.before.before.before.before in
     let at-if1 = at-pass.before in
     let at_read = at-if1.before in
-    node-on at_read.read.ensures Using at-if3.if3.true refl at-if1.if1.false at-pass.pass.ensures (at-using-columns.using-columns.ensures _ _)
+    node_on at_read.read.ensures Using at-if3.if3.true refl at-if1.if1.false at-pass.pass.ensures (at-using-columns.using-columns.ensures _ _)
 
 returns-4 : tie.Need-returns-4
 returns-4 c r =

@@ -14,10 +14,10 @@ use Rattle.grammar.specs.Grammar as grammar
 use Rattle.grammar.specs.Grammar.{shape}
 use Rattle.tokens.specs.Tokens.{rows, placed, comma, means, node}
 use Rattle.pen.specs.Pen.{source_of, source, put}
-use Rattle.pen.specs.Laws.{◌▹◌, same, puts-length}
+use Rattle.pen.specs.Laws.{◌▹◌, same, puts_length}
 use Rattle.pen.specs.Rows.{opt, row_first, row_done}
-use Rattle.pen.specs.Places.{shut, opened, left-some, shallow, other, node-on, optional, given-none, given-some}
-use Rattle.parts.specs.Laws.{no-list, a-list, either}
+use Rattle.pen.specs.Places.{shut, opened, left_some, shallow, other, node_on, optional, given_none, given_some}
+use Rattle.parts.specs.Laws.{no_list, a_list, either}
 use Rattle.clause.specs.Held.{held}
 use Prim.Native.Nat.{ℕ, ◌<◌}
 use borrow.Fn.Kinds.{In}
@@ -286,17 +286,17 @@ body-met t =
     let at_read = at-if1.before.before in
     shut refl at_read.read.ensures at-if1.if1.true (at-run.run.ensures _ r))
     (λ c κs. search rules)  -- pass-requires
-    (λ c. left-some _ _ c.before.before.if1.false)  -- sub-one-select
+    (λ c. left_some _ _ c.before.before.if1.false)  -- sub-one-select
     (λ c κs.  -- one-select-requires
     let at-if1 = c.before.before in
     let at-args = at-if1.before.before.before.before.before.before.before in
-    let l : 1 ≤ at-args.args.left = left-some _ _ at-if1.if1.false in
+    let l : 1 ≤ at-args.args.left = left_some _ _ at-if1.if1.false in
     (omega (arith, at-args.requires.0, l), tt))
-    (λ c. left-some _ _ c.before.before.before.before.before.before.if1.false)  -- sub-list
+    (λ c. left_some _ _ c.before.before.before.before.before.before.if1.false)  -- sub-list
     (λ c κs.  -- list-requires
     let at-if1 = c.before.before.before.before.before.before in
     let at-args = at-if1.before.before.before.before.before.before.before in
-    let l : 1 ≤ at-args.args.left = left-some _ _ at-if1.if1.false in
+    let l : 1 ≤ at-args.args.left = left_some _ _ at-if1.if1.false in
     (omega (arith, at-args.requires.0, l), tt))
     (λ c. search rules)  -- same-length-2
     (λ c r.  -- returns-2
@@ -324,11 +324,11 @@ compound-met t =
     shut refl at_read.read.ensures at-if1.if1.true (at-run.run.ensures _ r))
     (λ c κs. search rules)  -- pass-requires
     (λ c κs. search rules)  -- run-requires-2
-    (λ c. left-some _ _ c.before.before.before.before.before.before.if1.false)  -- sub-one-select
+    (λ c. left_some _ _ c.before.before.before.before.before.before.if1.false)  -- sub-one-select
     (λ c κs.  -- one-select-requires
     let at-if1 = c.before.before.before.before.before.before in
     let at-args = at-if1.before.before.before.before.before.before.before in
-    let l : 1 ≤ at-args.args.left = left-some _ _ at-if1.if1.false in
+    let l : 1 ≤ at-args.args.left = left_some _ _ at-if1.if1.false in
     (omega (arith, at-args.requires.0, l), tt))
     (λ c. search rules)  -- same-length-2
     (λ c r.  -- returns-2
@@ -360,11 +360,11 @@ cte-met t =
     (λ c κs. search rules)  -- word-requires
     (λ c.  -- sub-cte-body
     let at-if1 = c.before.before.before.before.before.before.before.before.before.before.before.before.before.before in
-    left-some _ _ at-if1.if1.false)
+    left_some _ _ at-if1.if1.false)
     (λ c κs.  -- cte-body-requires
     let at-if1 = c.before.before.before.before.before.before.before.before.before.before.before.before.before.before in
     let at-args = at-if1.before.before.before.before.before.before.before in
-    let l : 1 ≤ at-args.args.left = left-some _ _ at-if1.if1.false in
+    let l : 1 ≤ at-args.args.left = left_some _ _ at-if1.if1.false in
     (omega (arith, at-args.requires.0, l), tt))
     (λ c.  -- same-length-2
     let at-cte-body = c.before.before in
@@ -501,7 +501,7 @@ elements-met t =
     let at-loop-test = at-comma-if.before.before in
     let at-loop = at-loop-test.before in
     row_first _ _ _ _ at-loop-test.loop-test.true at-comma-if.comma-if.ensures ((at-element.element.ensures blank).puts v) ∙ at-loop.loop.invariant v)
-    (λ c. puts-length (row_done _ _ _ _ c.loop-test.false (c.before.loop.invariant Crate)))  -- same-length
+    (λ c. puts_length (row_done _ _ _ _ c.loop-test.false (c.before.loop.invariant Crate)))  -- same-length
     (λ c v. row_done _ _ _ _ c.loop-test.false (c.before.loop.invariant v))  -- returns
 
 abbrev from-clause-calls : ℕ → from-clause-lts.Claims
@@ -520,17 +520,17 @@ from-clause-met t =
     let at_read = at-if1.before.before in
     shut refl at_read.read.ensures at-if1.if1.true (at-run.run.ensures _ r))
     (λ c κs. search rules)  -- pass-requires
-    (λ c. left-some _ _ c.before.before.if1.false)  -- sub-table
+    (λ c. left_some _ _ c.before.before.if1.false)  -- sub-table
     (λ c κs.  -- table-requires
     let at-if1 = c.before.before in
     let at-args = at-if1.before.before.before.before.before.before.before in
-    let l : 1 ≤ at-args.args.left = left-some _ _ at-if1.if1.false in
+    let l : 1 ≤ at-args.args.left = left_some _ _ at-if1.if1.false in
     (omega (arith, at-args.requires.0, l), tt))
-    (λ c. left-some _ _ c.before.before.before.before.before.before.if1.false)  -- sub-list
+    (λ c. left_some _ _ c.before.before.before.before.before.before.if1.false)  -- sub-list
     (λ c κs.  -- list-requires
     let at-if1 = c.before.before.before.before.before.before in
     let at-args = at-if1.before.before.before.before.before.before.before in
-    let l : 1 ≤ at-args.args.left = left-some _ _ at-if1.if1.false in
+    let l : 1 ≤ at-args.args.left = left_some _ _ at-if1.if1.false in
     (omega (arith, at-args.requires.0, l), tt))
     (λ c. search rules)  -- same-length-2
     (λ c r.  -- returns-2
@@ -549,7 +549,7 @@ from-given-met t =
     from-given-lts.spec (from-given-calls t) (from-given-at t) from-given.Post
     (λ c κs. search rules)  -- read-requires
     (λ c κs. search rules)  -- pass-requires
-    (λ c r. given-none c.before.before.before.read.ensures c.before.if1.true c.pass.ensures)  -- returns
+    (λ c r. given_none c.before.before.before.read.ensures c.before.if1.true c.pass.ensures)  -- returns
     (λ c κs. search rules)  -- word-requires
     (λ c κs.  -- from-clause-requires
     let at_pre = c.before.before.before.before.before.before.before.before.before.before.before.before in
@@ -560,15 +560,15 @@ from-given-met t =
     let at-word = at-from-clause.before.before.before.before in
     let at-if1 = at-word.before.before in
     let at_read = at-if1.before.before in
-    given-some at_read.read.ensures at-if1.if1.false (at-word.word.ensures _ _ r ▹ optional (at-from-clause.from-clause.ensures r)))
+    given_some at_read.read.ensures at-if1.if1.false (at-word.word.ensures _ _ r ▹ optional (at-from-clause.from-clause.ensures r)))
 
-abbrev joined-calls : ℕ → joined-lts.Claims
-joined-calls t = (read-reads.Asked, read-reads.Learnt, run-reads.Asked, run-reads.Learnt, pass-reads.Asked, pass-reads.Learnt, table_below t, table.Post, join-constraint-reads.Asked, join-constraint-reads.Learnt)
+abbrev joined_calls : ℕ → joined-lts.Claims
+joined_calls t = (read-reads.Asked, read-reads.Learnt, run-reads.Asked, run-reads.Learnt, pass-reads.Asked, pass-reads.Learnt, table_below t, table.Post, join-constraint-reads.Asked, join-constraint-reads.Learnt)
 
-joined-met : {M : Type 1} (t : ℕ) → joined-lts.Closed (joined-calls t) (joined_at t) joined.Post M
+joined-met : {M : Type 1} (t : ℕ) → joined-lts.Closed (joined_calls t) (joined_at t) joined.Post M
 unfolding shape
 joined-met t =
-    joined-lts.spec (joined-calls t) (joined_at t) joined.Post
+    joined-lts.spec (joined_calls t) (joined_at t) joined.Post
     (λ c κs. search rules)  -- read-requires
     (λ c κs. search rules)  -- run-requires
     (λ c. search rules)  -- same-length
@@ -579,15 +579,15 @@ joined-met t =
     shut refl at_read.read.ensures at-if1.if1.true (at-run.run.ensures _ r))
     (λ c κs. search rules)  -- pass-requires
     (λ c κs. search rules)  -- run-requires-2
-    (λ c. left-some _ _ c.before.before.before.before.before.before.if1.false)  -- sub-table
+    (λ c. left_some _ _ c.before.before.before.before.before.before.if1.false)  -- sub-table
     (λ c κs.  -- table-requires
     let at-if1 = c.before.before.before.before.before.before in
     let at-args = at-if1.before.before.before.before.before.before.before in
-    let l : 1 ≤ at-args.args.left = left-some _ _ at-if1.if1.false in
+    let l : 1 ≤ at-args.args.left = left_some _ _ at-if1.if1.false in
     (omega (arith, at-args.requires.0, l), tt))
     (λ c.  -- sub-join-constraint
     let at-if1 = c.before.before.before.before.before.before.before.before.before.before in
-    left-some _ _ at-if1.if1.false)
+    left_some _ _ at-if1.if1.false)
     (λ c κs. search rules)  -- join-constraint-requires
     (λ c. search rules)  -- same-length-2
     (λ c r.  -- returns-2
@@ -611,7 +611,7 @@ list-met t =
     let at-pass = c.before.before in
     let at_read = at-pass.before in
     let at-args = at_read.before.before.before.before.before in
-    either _ at-args.args.commas (no-list at-args.args.text.now _ _ at_read.read.ensures at-pass.pass.ensures c.if1.true))
+    either _ at-args.args.commas (no_list at-args.args.text.now _ _ at_read.read.ensures at-pass.pass.ensures c.if1.true))
     (λ c κs. (omega (arith, c.before.before.before.before.before.before.before.before.before.requires.0), tt))  -- elements-requires
     (λ c. search rules)  -- same-length
     (λ c r.  -- returns-2
@@ -620,7 +620,7 @@ list-met t =
     let at-pass = at-if1.before.before in
     let at_read = at-pass.before in
     let at-args = at_read.before.before.before.before.before in
-    either _ at-args.args.commas (a-list at-args.args.text.now _ _ at_read.read.ensures at-pass.pass.ensures at-if1.if1.false at-elements.elements.ensures))
+    either _ at-args.args.commas (a_list at-args.args.text.now _ _ at_read.read.ensures at-pass.pass.ensures at-if1.if1.false at-elements.elements.ensures))
 
 abbrev one-calls : ℕ → one-lts.Claims
 one-calls t = (word-reads.Asked, word-reads.Learnt, run-reads.Asked, run-reads.Learnt, comma-reads.Asked, comma-reads.Learnt, from-given-below t, from-given.Post, filters-reads.Asked, filters-reads.Learnt)
@@ -679,7 +679,7 @@ one-select-met t =
     let at-pass = at-if2.before.before in
     let at-if1 = at-pass.before in
     let at_read = at-if1.before in
-    node-on at_read.read.ensures OneSelect at-if2.if2.true refl at-if1.if1.false at-pass.pass.ensures (at_one.one.ensures _))
+    node_on at_read.read.ensures OneSelect at-if2.if2.true refl at-if1.if1.false at-pass.pass.ensures (at_one.one.ensures _))
     (λ c κs. search rules)  -- values-requires
     (λ c. search rules)  -- same-length-3
     (λ c r.  -- returns-3
@@ -688,7 +688,7 @@ one-select-met t =
     let at-pass = at-if3.before.before.before.before in
     let at-if1 = at-pass.before in
     let at_read = at-if1.before in
-    node-on at_read.read.ensures Values at-if3.if3.true refl at-if1.if1.false at-pass.pass.ensures (at-values.values.ensures _ _))
+    node_on at_read.read.ensures Values at-if3.if3.true refl at-if1.if1.false at-pass.pass.ensures (at-values.values.ensures _ _))
     (λ c κs. search rules)  -- run-requires-2
     (λ c. search rules)  -- same-length-4
     (λ c r.  -- returns-4
@@ -714,17 +714,17 @@ select-met t =
     let at_read = at-if1.before.before in
     shut refl at_read.read.ensures at-if1.if1.true (at-run.run.ensures _ r))
     (λ c κs. search rules)  -- pass-requires
-    (λ c. left-some _ _ c.before.before.if1.false)  -- sub-with-clause
+    (λ c. left_some _ _ c.before.before.if1.false)  -- sub-with-clause
     (λ c κs.  -- with-clause-requires
     let at-if1 = c.before.before in
     let at-args = at-if1.before.before.before.before.before.before.before in
-    let l : 1 ≤ at-args.args.left = left-some _ _ at-if1.if1.false in
+    let l : 1 ≤ at-args.args.left = left_some _ _ at-if1.if1.false in
     (omega (arith, at-args.requires.0, l), tt))
-    (λ c. left-some _ _ c.before.before.before.before.before.before.if1.false)  -- sub-body
+    (λ c. left_some _ _ c.before.before.before.before.before.before.if1.false)  -- sub-body
     (λ c κs.  -- body-requires
     let at-if1 = c.before.before.before.before.before.before in
     let at-args = at-if1.before.before.before.before.before.before.before in
-    let l : 1 ≤ at-args.args.left = left-some _ _ at-if1.if1.false in
+    let l : 1 ≤ at-args.args.left = left_some _ _ at-if1.if1.false in
     (omega (arith, at-args.requires.0, l), tt))
     (λ c κs. search rules)  -- run-requires-2
     (λ c κs. search rules)  -- run-requires-3
@@ -795,7 +795,7 @@ table-met t =
     let at-pass = at-if2.before.before in
     let at-if1 = at-pass.before in
     let at_read = at-if1.before in
-    node-on at_read.read.ensures Table at-if2.if2.true refl at-if1.if1.false at-pass.pass.ensures (at-table-name.table-name.ensures _ _))
+    node_on at_read.read.ensures Table at-if2.if2.true refl at-if1.if1.false at-pass.pass.ensures (at-table-name.table-name.ensures _ _))
     (λ c κs. search rules)  -- table-call-requires
     (λ c. search rules)  -- same-length-3
     (λ c r.  -- returns-3
@@ -804,7 +804,7 @@ table-met t =
     let at-pass = at-if3.before.before.before.before in
     let at-if1 = at-pass.before in
     let at_read = at-if1.before in
-    node-on at_read.read.ensures TableCall at-if3.if3.true refl at-if1.if1.false at-pass.pass.ensures (at-table-call.table-call.ensures _ _))
+    node_on at_read.read.ensures TableCall at-if3.if3.true refl at-if1.if1.false at-pass.pass.ensures (at-table-call.table-call.ensures _ _))
     (λ c. search rules)  -- sub-table-select
     (λ c κs.  -- table-select-requires
     let at-if1 = c.before.before.before.before.before.before.before.before in
@@ -817,7 +817,7 @@ table-met t =
     let at-pass = at-if4.before.before.before.before.before.before in
     let at-if1 = at-pass.before in
     let at_read = at-if1.before in
-    node-on at_read.read.ensures TableSelect at-if4.if4.true refl at-if1.if1.false at-pass.pass.ensures (at-table-select.table-select.ensures _))
+    node_on at_read.read.ensures TableSelect at-if4.if4.true refl at-if1.if1.false at-pass.pass.ensures (at-table-select.table-select.ensures _))
     (λ c. search rules)  -- sub-sub
     (λ c κs. search rules)  -- sub-requires
     (λ c. search rules)  -- same-length-5
@@ -827,7 +827,7 @@ table-met t =
     let at-pass = at-if5.before.before.before.before.before.before.before.before in
     let at-if1 = at-pass.before in
     let at_read = at-if1.before in
-    node-on at_read.read.ensures Sub at-if5.if5.true refl at-if1.if1.false at-pass.pass.ensures (at-sub.sub.ensures _))
+    node_on at_read.read.ensures Sub at-if5.if5.true refl at-if1.if1.false at-pass.pass.ensures (at-sub.sub.ensures _))
     (λ c κs. search rules)  -- run-requires-2
     (λ c. search rules)  -- same-length-6
     (λ c r.  -- returns-6
@@ -880,11 +880,11 @@ with-clause-met t =
     shut refl at_read.read.ensures at-if1.if1.true (at-run.run.ensures _ r))
     (λ c κs. search rules)  -- pass-requires
     (λ c κs. search rules)  -- run-requires-2
-    (λ c. left-some _ _ c.before.before.before.before.before.before.if1.false)  -- sub-list
+    (λ c. left_some _ _ c.before.before.before.before.before.before.if1.false)  -- sub-list
     (λ c κs.  -- list-requires
     let at-if1 = c.before.before.before.before.before.before in
     let at-args = at-if1.before.before.before.before.before.before.before in
-    let l : 1 ≤ at-args.args.left = left-some _ _ at-if1.if1.false in
+    let l : 1 ≤ at-args.args.left = left_some _ _ at-if1.if1.false in
     (omega (arith, at-args.requires.0, l), tt))
     (λ c. search rules)  -- same-length-2
     (λ c r.  -- returns-2

@@ -1,7 +1,7 @@
 -- `select::materialized` writes its word where the flags say so.
 use borrow.Author.Rules.{rules}
 use Rattle.grammar.specs.Grammar.{materialized}
-use Rattle.pen.specs.Places.{is-so, is-not}
+use Rattle.pen.specs.Places.{is_so, is_not}
 use Rattle.clause.proofs.select.materialized.Statement.{statement}
 use Rattle.clause.proofs.select.materialized.Tie as tie
 
@@ -9,10 +9,10 @@ returns : tie.Need-returns
 returns c e d r h =
     let at-word = c.before.before in
     let at-if1 = at-word.before.before in
-    is-so materialized h at-if1.if1.true (at-word.word.ensures e d r)
+    is_so materialized h at-if1.if1.true (at-word.word.ensures e d r)
 
 returns-2 : tie.Need-returns-2
-returns-2 c e d r h = is-not materialized h c.if1.false
+returns-2 c e d r h = is_not materialized h c.if1.false
 
 pub materialized-spec : {M : Type 1} → statement M
 materialized-spec = tie.close (tie.spec (λ c κs. search rules) (λ c. search rules) returns returns-2)

@@ -1,7 +1,7 @@
 -- `select::values` passes over an empty LIST.
 use borrow.Author.Rules.{rules}
 use Rattle.pen.specs.Laws.{◌▹◌}
-use Rattle.pen.specs.Places.{filled_none, filled-some}
+use Rattle.pen.specs.Places.{filled_none, filled_some}
 use Rattle.grammar.specs.Grammar.{shape}
 use Rattle.clause.proofs.select.values.Statement.{statement}
 use Rattle.clause.proofs.select.values.Tie as tie
@@ -20,7 +20,7 @@ returns-2 c d r =
     let at-word = at-tuples.before.before.before.before in
     let at-if1 = at-word.before.before in
     let at_read = at-if1.before.before in
-    filled-some at_read.read.ensures at-if1.if1.false (at-word.word.ensures _ d r ▹ at-tuples.tuples.ensures d r)
+    filled_some at_read.read.ensures at-if1.if1.false (at-word.word.ensures _ d r ▹ at-tuples.tuples.ensures d r)
 
 pub values-spec : {M : Type 1} → statement M
 values-spec =

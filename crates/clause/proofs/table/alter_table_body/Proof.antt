@@ -4,7 +4,7 @@ use mathlib.Core.Path.{refl}
 use borrow.Author.Tests.{ne_eqb}
 use Rattle.grammar.specs.Grammar.{shape}
 use Rattle.grammar.specs.Kind.{RenameTo, AddColumn, AlterColumn, RenameColumn, DropColumn}
-use Rattle.pen.specs.Places.{shallow, other, node-on}
+use Rattle.pen.specs.Places.{shallow, other, node_on}
 use Rattle.clause.proofs.table.alter_table_body.Statement.{statement}
 use Rattle.clause.proofs.table.alter_table_body.Tie as tie
 
@@ -23,7 +23,7 @@ returns-2 c r =
     let at-pass = at-if2.before.before in
     let at-if1 = at-pass.before in
     let at_read = at-if1.before in
-    node-on at_read.read.ensures RenameTo at-if2.if2.true refl at-if1.if1.false at-pass.pass.ensures (at-rename-to.rename-to.ensures _ _)
+    node_on at_read.read.ensures RenameTo at-if2.if2.true refl at-if1.if1.false at-pass.pass.ensures (at-rename-to.rename-to.ensures _ _)
 
 returns-3 : tie.Need-returns-3
 unfolding shape
@@ -33,7 +33,7 @@ returns-3 c r =
     let at-pass = at-if3.before.before.before.before in
     let at-if1 = at-pass.before in
     let at_read = at-if1.before in
-    node-on at_read.read.ensures AddColumn at-if3.if3.true refl at-if1.if1.false at-pass.pass.ensures (at-add-column.add-column.ensures _)
+    node_on at_read.read.ensures AddColumn at-if3.if3.true refl at-if1.if1.false at-pass.pass.ensures (at-add-column.add-column.ensures _)
 
 returns-4 : tie.Need-returns-4
 unfolding shape
@@ -43,7 +43,7 @@ returns-4 c r =
     let at-pass = at-if4.before.before.before.before.before.before in
     let at-if1 = at-pass.before in
     let at_read = at-if1.before in
-    node-on at_read.read.ensures AlterColumn at-if4.if4.true refl at-if1.if1.false at-pass.pass.ensures (at-alter-column.alter-column.ensures _)
+    node_on at_read.read.ensures AlterColumn at-if4.if4.true refl at-if1.if1.false at-pass.pass.ensures (at-alter-column.alter-column.ensures _)
 
 returns-5 : tie.Need-returns-5
 unfolding shape
@@ -53,7 +53,7 @@ returns-5 c r =
     let at-pass = at-if5.before.before.before.before.before.before.before.before in
     let at-if1 = at-pass.before in
     let at_read = at-if1.before in
-    node-on at_read.read.ensures RenameColumn at-if5.if5.true refl at-if1.if1.false at-pass.pass.ensures (at-rename-column.rename-column.ensures _ _)
+    node_on at_read.read.ensures RenameColumn at-if5.if5.true refl at-if1.if1.false at-pass.pass.ensures (at-rename-column.rename-column.ensures _ _)
 
 returns-6 : tie.Need-returns-6
 unfolding shape
@@ -63,7 +63,7 @@ returns-6 c r =
     let at-pass = at-if6.before.before.before.before.before.before.before.before.before.before in
     let at-if1 = at-pass.before in
     let at_read = at-if1.before in
-    node-on at_read.read.ensures DropColumn at-if6.if6.true refl at-if1.if1.false at-pass.pass.ensures (at-drop-column.drop-column.ensures _ _)
+    node_on at_read.read.ensures DropColumn at-if6.if6.true refl at-if1.if1.false at-pass.pass.ensures (at-drop-column.drop-column.ensures _ _)
 
 returns-7 : tie.Need-returns-7
 returns-7 c r =

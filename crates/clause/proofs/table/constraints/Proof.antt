@@ -1,7 +1,7 @@
 -- `table::constraints` passes over an empty LIST.
 use borrow.Author.Rules.{rules}
 use Rattle.pen.specs.Laws.{◌▹◌}
-use Rattle.pen.specs.Places.{filled_none, filled-some}
+use Rattle.pen.specs.Places.{filled_none, filled_some}
 use Rattle.clause.specs.Held.{held}
 use Rattle.clause.proofs.table.constraints.Statement.{statement}
 use Rattle.clause.proofs.table.constraints.Tie as tie
@@ -19,7 +19,7 @@ returns-2 c r =
     let at-word = at-list.before.before.before.before in
     let at-if1 = at-word.before.before in
     let at_read = at-if1.before.before in
-    filled-some at_read.read.ensures at-if1.if1.false (at-word.word.ensures _ _ r ▹ at-list.list.ensures r)
+    filled_some at_read.read.ensures at-if1.if1.false (at-word.word.ensures _ _ r ▹ at-list.list.ensures r)
 
 pub constraints-spec : {M : Type 1} → statement M
 constraints-spec =

@@ -1,7 +1,7 @@
 -- `types::operator_clause` writes its entry, a step a call.
 use borrow.Author.Rules.{rules}
 use mathlib.Core.Path.{refl}
-use Rattle.pen.specs.Laws.{◌▹◌, a-said, in_one}
+use Rattle.pen.specs.Laws.{◌▹◌, a_said, in_one}
 use Rattle.pen.specs.Places.{shut, opened, optional}
 use Rattle.grammar.specs.Grammar.{shape}
 use Rattle.clause.proofs.types.operator_clause.Statement.{statement}
@@ -23,7 +23,7 @@ returns-2 c r =
     let at-pass = at-said.before.before.before in
     let at-if1 = at-pass.before in
     let at_read = at-if1.before.before in
-    opened refl at_read.read.ensures at-if1.if1.false at-pass.pass.ensures (a-said _ refl at-said.said.ensures
+    opened refl at_read.read.ensures at-if1.if1.false at-pass.pass.ensures (a_said _ refl at-said.said.ensures
     ▹ at-quoted.quoted.ensures _ _
     ▹ optional (in_one (at_name.name.ensures _ _)))
 

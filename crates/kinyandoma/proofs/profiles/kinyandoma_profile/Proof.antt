@@ -1,12 +1,12 @@
 -- `kinyandoma::profiles::kinyandoma_profile` meets its contract: a length fits the place of an answer, and so does a record.
 use native.Mathlib.Omega.{arith}
-use Rattle.field.specs.Laws.{profiles-small}
+use Rattle.field.specs.Laws.{profiles_small}
 use borrow.Author.Rules.{rules}
 use Rattle.kinyandoma.proofs.profiles.kinyandoma_profile.Statement.{statement}
 use Rattle.kinyandoma.proofs.profiles.kinyandoma_profile.Tie as tie
 
 code-requires : tie.Need-code-requires
-code-requires c κs = profiles-small (λ k. omega (arith, c.before.before.before.shared-slice-known.given k)) c.profile.ensures
+code-requires c κs = profiles_small (λ k. omega (arith, c.before.before.before.shared-slice-known.given k)) c.profile.ensures
 
 returns : tie.Need-returns
 returns c =

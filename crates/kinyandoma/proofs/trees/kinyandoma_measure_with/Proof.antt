@@ -1,12 +1,12 @@
 -- `kinyandoma::trees::kinyandoma_measure_with` meets its contract: a length fits the place of an answer.
 use native.Mathlib.Omega.{arith}
-use Rattle.render.specs.Laws.{measures-small}
+use Rattle.render.specs.Laws.{measures_small}
 use borrow.Author.Rules.{rules}
 use Rattle.kinyandoma.proofs.trees.kinyandoma_measure_with.Statement.{statement}
 use Rattle.kinyandoma.proofs.trees.kinyandoma_measure_with.Tie as tie
 
 code-requires : tie.Need-code-requires
-code-requires c κs = measures-small (λ k. omega (arith, c.before.before.before.shared-slice-known.given k)) c.measure.ensures
+code-requires c κs = measures_small (λ k. omega (arith, c.before.before.before.shared-slice-known.given k)) c.measure.ensures
 
 returns : tie.Need-returns
 returns c =

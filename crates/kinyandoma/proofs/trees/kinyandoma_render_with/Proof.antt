@@ -1,6 +1,6 @@
 -- `kinyandoma::trees::kinyandoma_render_with` meets its contract: a length fits the place of an answer.
 use native.Mathlib.Omega.{arith}
-use Rattle.render.specs.Laws.{renders-small}
+use Rattle.render.specs.Laws.{renders_small}
 use borrow.Author.Rules.{rules}
 use Rattle.kinyandoma.proofs.trees.kinyandoma_render_with.Statement.{statement}
 use Rattle.kinyandoma.proofs.trees.kinyandoma_render_with.Tie as tie
@@ -9,7 +9,7 @@ code-requires : tie.Need-code-requires
 code-requires c κs =
     let at-bytes = c.before.before.before.before.before.before.before.shared-slice-known in
     let at-render = c.before.before.render in
-    renders-small (λ k. omega (arith, at-bytes.given k)) at-render.ensures
+    renders_small (λ k. omega (arith, at-bytes.given k)) at-render.ensures
 
 returns : tie.Need-returns
 returns c =

@@ -2,9 +2,9 @@
 use Prim.Native.Nat.{◌*◌, ◌-◌, ◌^◌, ◌≤◌}
 use native.Mathlib.Omega.{arith}
 use mathlib.Core.Path.{◌≡◌, ap}
-use Rattle.record.specs.Record.{recordAt, count}
+use Rattle.record.specs.Record.{record_at, count}
 use Rattle.record.specs.declared.Record.{Record}
-use Rattle.tokens.specs.Ample.{sum-next, lengths, ampleFor}
+use Rattle.tokens.specs.Ample.{sum_next, lengths, ample_for}
 use borrow.Author.Rules.{rules}
 use Rattle.render.proofs.jobs.ample.Statement.{statement}
 use Rattle.render.proofs.jobs.ample.Tie as tie
@@ -19,11 +19,11 @@ loop-again : tie.Need-loop-preserved invariant-loop decreases-loop
 loop-again c =
     let at = c.before.before.before in
     let tree = at.before.before.before.args.tree.now in
-    let len : c.before.read.result.len ≡ (recordAt tree at.loop.i).len = ap (λ (r : Record). r.len) c.before.read.ensures in
-    (search rules, omega (arith, at.loop.invariant.1, sum-next (λ r. r.len) tree at.loop.i, len), search rules)
+    let len : c.before.read.result.len ≡ (record_at tree at.loop.i).len = ap (λ (r : Record). r.len) c.before.read.ensures in
+    (search rules, omega (arith, at.loop.invariant.1, sum_next (λ r. r.len) tree at.loop.i, len), search rules)
 
 returns : tie.Need-returns invariant-loop decreases-loop
-unfolding ampleFor
+unfolding ample_for
 returns c =
     let at = c.before in
     let tree = at.before.before.before.args.tree.now in

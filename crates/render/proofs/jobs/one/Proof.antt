@@ -4,20 +4,20 @@ use native.Mathlib.Omega.{arith}
 use Prim.Native.Nat.{◌+◌, ◌-◌, ◌≤◌}
 use lib.ListN.{length, drop, length-take, length-drop}
 use Rattle.stream.specs.Sink.{most}
-use Rattle.tree.specs.Told.{told-checks}
-use Rattle.render.specs.JobsLaws.{is-beyond, is_within, called, inside-ends, written-fits}
+use Rattle.tree.specs.Told.{told_checks}
+use Rattle.render.specs.JobsLaws.{is_beyond, is_within, called, inside_ends, written_fits}
 use borrow.Author.Rules.{rules}
 use Rattle.render.proofs.jobs.one.Statement.{statement}
 use Rattle.render.proofs.jobs.one.Tie as tie
 
 returns : tie.Need-returns
-returns c = rw c.answered.ensures (is-beyond (sym c.before.before.outside.ensures ∙ c.before.if1.true))
+returns c = rw c.answered.ensures (is_beyond (sym c.before.before.outside.ensures ∙ c.before.if1.true))
 
 add-end : tie.Need-overflow-add-end
 add-end c =
     let at-args = c.before.before.before.before.before.before.args in
     let size : length at-args.trees.now ≤ most = search rules in
-    record { fits = omega (arith, inside-ends at-args.trees.now at-args.job (sym c.before.outside.ensures ∙ c.if1.false)) }
+    record { fits = omega (arith, inside_ends at-args.trees.now at-args.job (sym c.before.outside.ensures ∙ c.if1.false)) }
 
 sub-tree : tie.Need-overflow-sub-tree
 sub-tree c = omega arith
@@ -25,13 +25,13 @@ sub-tree c = omega arith
 part-tree-end : tie.Need-slice-bounds-tree-end
 part-tree-end c =
     let at-args = c.before.before.before.before.before.before.args in
-    inside-ends at-args.trees.now at-args.job (sym c.before.outside.ensures ∙ c.if1.false)
+    inside_ends at-args.trees.now at-args.job (sym c.before.outside.ensures ∙ c.if1.false)
 
 render-ample-requires : tie.Need-render-ample-requires
 render-ample-requires c κs =
     let at-args = c.before.before.before.before.before.before.before.before.before.before.args in
     let at_pre = c.before.before.before.before.before.before.before.before.before.before.requires in
-    (at_pre.0, told-checks at-args.told at_pre.1.0 c.before.check-told.ensures)
+    (at_pre.0, told_checks at-args.told at_pre.1.0 c.before.check-told.ensures)
 
 stepped-requires : tie.Need-stepped-requires
 stepped-requires c κs =
@@ -39,7 +39,7 @@ stepped-requires c κs =
     let at_pre = c.before.before.before.before.before.before.before.before.before.before.before.before.before.requires in
     let at-render = c.before.before.render-ample in
     let size : length at-args.out.now ≤ most = search (rules, c.before.before.before.before.before.before.before.before.before.before.before.before.before.well-formed) in
-    omega (arith, at_pre.1.1, written-fits at-render.result at-render.ensures, length-take (length at-args.out.now - at-args.at) (drop at-args.at at-args.out.now), length-drop at-args.at at-args.out.now)
+    omega (arith, at_pre.1.1, written_fits at-render.result at-render.ensures, length-take (length at-args.out.now - at-args.at) (drop at-args.at at-args.out.now), length-drop at-args.at at-args.out.now)
 
 returns-2 : tie.Need-returns-2
 returns-2 c =

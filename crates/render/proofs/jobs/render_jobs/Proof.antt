@@ -232,7 +232,7 @@ module _ {M : Type 1} {𝓤 : Ura M} (𝓛 : Logic 𝓤) (at_mem : Memory → SP
     zs = zs;
     n = d.next;
     n-fits = fits;
-    room = rw same (J.single-room e s.room);
+    room = rw same (J.single_room e s.room);
     same = length-set s.js s.i d.job ∙ s.same;
     same_out = same ∙ s.same_out;
     so_far = J.one_more (mode_of k) y₁.now y₂.now xs os none d.job zs d.next (rw s.same l) s.so_far e;
@@ -376,7 +376,7 @@ module _ {M : Type 1} {𝓤 : Ura M} (𝓛 : Logic 𝓤) (at_mem : Memory → SP
           rewrite ! (cell 16 13) (λ (t : Bool). ‵ (fat full_share ty_bool l₁₄ 0 (vbool t))) test refl $ leaves_loop ! (val ! (cell 16 13) refl) $ exec ! 𝓣.C 𝓣.Λ En t-8 (at_ret En Post) $
           assigns ! (of_opd ! (val ! (cell 16 8) refl)) (slot !) (init ! (cell 16 0) refl (tt, record { fits = s.n-fits })) $ forget ! (cell 16 13) refl $
           move ! (12 ∷ []) $ lft_end ! tt $ move ! (0 ∷ 13 ∷ []) $ lent_back ! tt $ rewrite ! 0 (λ (m : ℕ). ‵ ((arr_parts (shares u8) m).part full_share ps l₆ 0)) sized refl $
-          use1 𝓛 (‵ (fat full_share (ty_array (ty_int w8) size) l₆ 0 (B.mach ps))) (B.comes-out 𝓛 size l₆ ps) $ move ! (13 ∷ []) $ drop ! $
+          use1 𝓛 (‵ (fat full_share (ty_array (ty_int w8) size) l₆ 0 (B.mach ps))) (B.comes_out 𝓛 size l₆ ps) $ move ! (13 ∷ []) $ drop ! $
           move ! (1 ∷ 7 ∷ 8 ∷ 9 ∷ []) $ closes_slice ! tt T.the_row xs s.js s.same b o $
           move ! (4 ∷ []) $ use1 𝓛 (‵ (row u8 full_share s.zs b₃ o₃)) (whole_out 𝓛 u8 s.zs b₃ o₃) $ move ! (0 ∷ 9 ∷ 10 ∷ 11 ∷ []) $ closes_slice ! tt u8 os s.zs s.same_out b₃ o₃ $
           returns ! (look ! (cell 12 0) refl) $

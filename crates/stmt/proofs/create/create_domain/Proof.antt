@@ -1,10 +1,10 @@
 -- `create::create_domain` writes its entry, a step a call.
 use borrow.Author.Rules.{rules}
-use Rattle.pen.specs.Laws.{◌▹◌, a-said}
+use Rattle.pen.specs.Laws.{◌▹◌, a_said}
 use Rattle.clause.specs.Held.{held}
 use Rattle.grammar.specs.Grammar.{shape}
 use mathlib.Core.Path.{refl}
-use Rattle.stmt.specs.Laws.{same-two}
+use Rattle.stmt.specs.Laws.{same_two}
 use Rattle.stmt.proofs.create.create_domain.Statement.{statement}
 use Rattle.stmt.proofs.create.create_domain.Tie as tie
 
@@ -21,8 +21,8 @@ returns c r h g =
     let at-said = at-if-not-exists.before.before.before.before in
     let at-word = at-said.before.before.before.before.before in
     at-word.word.ensures _ _ r
-    ▹ a-said _ refl at-said.said.ensures
-    ▹ at-if-not-exists.if-not-exists.ensures _ _ r _ h
+    ▹ a_said _ refl at-said.said.ensures
+    ▹ at-if-not-exists.if_not_exists.ensures _ _ r _ h
     ▹ at_name.name.ensures _ r
     ▹ at-word2.word2.ensures _ _ r
     ▹ at-name2.name2.ensures _ r
@@ -36,4 +36,4 @@ create-domain-spec =
     (tie.spec
     (λ c κs. search rules) (λ c. search rules) (λ c κs. search rules) (λ c κs. search rules)
     (λ c κs. search rules) (λ c κs. search rules) (λ c κs. search rules) (λ c κs. search rules)
-    (λ c κs. search rules) (λ c κs. search rules) (λ c. same-two (returns c)) returns)
+    (λ c κs. search rules) (λ c κs. search rules) (λ c. same_two (returns c)) returns)

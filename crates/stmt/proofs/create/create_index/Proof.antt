@@ -2,7 +2,7 @@
 use borrow.Author.Rules.{rules}
 use Rattle.pen.specs.Laws.{◌▹◌}
 use Rattle.grammar.specs.Grammar.{shape}
-use Rattle.stmt.specs.Laws.{same-two}
+use Rattle.stmt.specs.Laws.{same_two}
 use Rattle.stmt.proofs.create.create_index.Statement.{statement}
 use Rattle.stmt.proofs.create.create_index.Tie as tie
 
@@ -23,7 +23,7 @@ returns c r h g =
     at-word.word.ensures _ _ r
     ▹ at-word-if.word-if.ensures _ _ r _ h
     ▹ at-word2.word2.ensures _ _ r
-    ▹ at-if-not-exists.if-not-exists.ensures _ _ r _ g
+    ▹ at-if-not-exists.if_not_exists.ensures _ _ r _ g
     ▹ at-run.run.ensures _ r
     ▹ at-word3.word3.ensures _ _ r
     ▹ at-run2.run2.ensures _ r
@@ -38,5 +38,5 @@ create-index-spec =
     (tie.spec
     (λ c κs. search rules) (λ c κs. search rules) (λ c κs. search rules) (λ c κs. search rules)
     (λ c κs. search rules) (λ c κs. search rules) (λ c κs. search rules) (λ c κs. search rules)
-    (λ c κs. search rules) (λ c κs. search rules) (λ c κs. search rules) (λ c. same-two (returns c))
+    (λ c κs. search rules) (λ c κs. search rules) (λ c κs. search rules) (λ c. same_two (returns c))
     returns)

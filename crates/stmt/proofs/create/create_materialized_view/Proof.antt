@@ -2,7 +2,7 @@
 use borrow.Author.Rules.{rules}
 use Rattle.pen.specs.Laws.{◌▹◌}
 use Rattle.grammar.specs.Grammar.{shape}
-use Rattle.stmt.specs.Laws.{same-one}
+use Rattle.stmt.specs.Laws.{same_one}
 use Rattle.stmt.proofs.create.create_materialized_view.Statement.{statement}
 use Rattle.stmt.proofs.create.create_materialized_view.Tie as tie
 
@@ -17,7 +17,7 @@ returns c r h =
     at-word.word.ensures _ _ r
     ▹ at-word2.word2.ensures _ _ r
     ▹ at-word3.word3.ensures _ _ r
-    ▹ at-if-not-exists.if-not-exists.ensures _ _ r _ h
+    ▹ at-if-not-exists.if_not_exists.ensures _ _ r _ h
     ▹ at-view-body.view-body.ensures r
 
 pub create-materialized-view-spec : {M : Type 1} → statement M
@@ -25,4 +25,4 @@ create-materialized-view-spec =
     tie.close
     (tie.spec
     (λ c κs. search rules) (λ c κs. search rules) (λ c κs. search rules) (λ c κs. search rules)
-    (λ c κs. search rules) (λ c. same-one (returns c)) returns)
+    (λ c κs. search rules) (λ c. same_one (returns c)) returns)

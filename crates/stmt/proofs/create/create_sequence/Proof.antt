@@ -1,9 +1,9 @@
 -- `create::create_sequence` writes its entry, a step a call.
 use borrow.Author.Rules.{rules}
-use Rattle.pen.specs.Laws.{◌▹◌, a-said}
+use Rattle.pen.specs.Laws.{◌▹◌, a_said}
 use Rattle.grammar.specs.Grammar.{shape}
 use mathlib.Core.Path.{refl}
-use Rattle.stmt.specs.Laws.{same-two}
+use Rattle.stmt.specs.Laws.{same_two}
 use Rattle.stmt.proofs.create.create_sequence.Statement.{statement}
 use Rattle.stmt.proofs.create.create_sequence.Tie as tie
 
@@ -20,8 +20,8 @@ returns c d r h g =
     let at-said = at-if-not-exists.before.before.before.before in
     let at-word = at-said.before.before.before.before.before in
     at-word.word.ensures _ _ r
-    ▹ a-said _ refl at-said.said.ensures
-    ▹ at-if-not-exists.if-not-exists.ensures _ _ r _ h
+    ▹ a_said _ refl at-said.said.ensures
+    ▹ at-if-not-exists.if_not_exists.ensures _ _ r _ h
     ▹ at-run.run.ensures _ r
     ▹ at-number-clause-of-two.number-clause-of-two.ensures _ refl _ refl _ r
     ▹ at-number-clause-of-two2.number-clause-of-two2.ensures _ refl _ refl _ r
@@ -37,4 +37,4 @@ create-sequence-spec =
     (λ c κs. search rules) (λ c. search rules) (λ c. search rules) (λ c κs. search rules)
     (λ c. search rules) (λ c. search rules) (λ c κs. search rules) (λ c. search rules)
     (λ c κs. search rules) (λ c. search rules) (λ c κs. search rules) (λ c κs. search rules)
-    (λ c. same-two (returns c 0)) returns)
+    (λ c. same_two (returns c 0)) returns)

@@ -2,7 +2,7 @@
 use borrow.Author.Rules.{rules}
 use Rattle.pen.specs.Laws.{◌▹◌, in_one}
 use Rattle.grammar.specs.Grammar.{shape}
-use Rattle.stmt.specs.Laws.{same-two}
+use Rattle.stmt.specs.Laws.{same_two}
 use Rattle.stmt.proofs.create.create_table.Statement.{statement}
 use Rattle.stmt.proofs.create.create_table.Tie as tie
 
@@ -18,7 +18,7 @@ returns c r h g =
     at-word.word.ensures _ _ r
     ▹ at-word-if.word-if.ensures _ _ r _ h
     ▹ at-word2.word2.ensures _ _ r
-    ▹ at-if-not-exists.if-not-exists.ensures _ _ r _ g
+    ▹ at-if-not-exists.if_not_exists.ensures _ _ r _ g
     ▹ in_one (at-run.run.ensures _ r)
     ▹ at-create-table-body.create-table-body.ensures r
 
@@ -27,4 +27,4 @@ create-table-spec =
     tie.close
     (tie.spec
     (λ c κs. search rules) (λ c κs. search rules) (λ c κs. search rules) (λ c κs. search rules)
-    (λ c κs. search rules) (λ c κs. search rules) (λ c. same-two (returns c)) returns)
+    (λ c κs. search rules) (λ c κs. search rules) (λ c. same_two (returns c)) returns)

@@ -3,7 +3,7 @@ use borrow.Author.Rules.{rules}
 use Rattle.pen.specs.Laws.{◌▹◌}
 use Rattle.pen.specs.Places.{optional}
 use Rattle.grammar.specs.Grammar.{shape}
-use Rattle.stmt.specs.Laws.{same-three}
+use Rattle.stmt.specs.Laws.{same_three}
 use Rattle.stmt.proofs.create.create_trigger.Statement.{statement}
 use Rattle.stmt.proofs.create.create_trigger.Tie as tie
 
@@ -24,7 +24,7 @@ returns c d r h g k =
     at-word.word.ensures _ _ r
     ▹ at-word-if.word-if.ensures _ _ r _ h
     ▹ at-word2.word2.ensures _ _ r
-    ▹ at-if-not-exists.if-not-exists.ensures _ _ r _ g
+    ▹ at-if-not-exists.if_not_exists.ensures _ _ r _ g
     ▹ at-run.run.ensures _ r
     ▹ optional (at-run2.run2.ensures _ r)
     ▹ at-run3.run3.ensures _ r
@@ -39,5 +39,5 @@ create-trigger-spec =
     (tie.spec
     (λ c κs. search rules) (λ c κs. search rules) (λ c κs. search rules) (λ c κs. search rules)
     (λ c κs. search rules) (λ c κs. search rules) (λ c κs. search rules) (λ c κs. search rules)
-    (λ c κs. search rules) (λ c κs. search rules) (λ c κs. search rules) (λ c. same-three (returns c 0))
+    (λ c κs. search rules) (λ c κs. search rules) (λ c κs. search rules) (λ c. same_three (returns c 0))
     returns)

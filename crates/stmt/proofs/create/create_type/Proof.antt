@@ -2,7 +2,7 @@
 use borrow.Author.Rules.{rules}
 use Rattle.pen.specs.Laws.{◌▹◌, in_one}
 use Rattle.grammar.specs.Grammar.{shape}
-use Rattle.stmt.specs.Laws.{same-one}
+use Rattle.stmt.specs.Laws.{same_one}
 use Rattle.stmt.proofs.create.create_type.Statement.{statement}
 use Rattle.stmt.proofs.create.create_type.Tie as tie
 
@@ -16,7 +16,7 @@ returns c r h =
     let at-word = at-word2.before.before.before.before in
     at-word.word.ensures _ _ r
     ▹ at-word2.word2.ensures _ _ r
-    ▹ at-if-not-exists.if-not-exists.ensures _ _ r _ h
+    ▹ at-if-not-exists.if_not_exists.ensures _ _ r _ h
     ▹ in_one (at_name.name.ensures _ r)
     ▹ at-create-type-body.create-type-body.ensures r
 
@@ -25,4 +25,4 @@ create-type-spec =
     tie.close
     (tie.spec
     (λ c κs. search rules) (λ c κs. search rules) (λ c κs. search rules) (λ c κs. search rules)
-    (λ c κs. search rules) (λ c. same-one (returns c)) returns)
+    (λ c κs. search rules) (λ c. same_one (returns c)) returns)

@@ -2,7 +2,7 @@
 use borrow.Author.Rules.{rules}
 use Rattle.pen.specs.Laws.{◌▹◌}
 use Rattle.grammar.specs.Grammar.{shape}
-use Rattle.stmt.specs.Laws.{same-two}
+use Rattle.stmt.specs.Laws.{same_two}
 use Rattle.stmt.proofs.create.create_view.Statement.{statement}
 use Rattle.stmt.proofs.create.create_view.Tie as tie
 
@@ -17,7 +17,7 @@ returns c r h g =
     at-word.word.ensures _ _ r
     ▹ at-word-if.word-if.ensures _ _ r _ h
     ▹ at-word2.word2.ensures _ _ r
-    ▹ at-if-not-exists.if-not-exists.ensures _ _ r _ g
+    ▹ at-if-not-exists.if_not_exists.ensures _ _ r _ g
     ▹ at-view-body.view-body.ensures r
 
 pub create-view-spec : {M : Type 1} → statement M
@@ -25,4 +25,4 @@ create-view-spec =
     tie.close
     (tie.spec
     (λ c κs. search rules) (λ c κs. search rules) (λ c κs. search rules) (λ c κs. search rules)
-    (λ c κs. search rules) (λ c. same-two (returns c)) returns)
+    (λ c κs. search rules) (λ c. same_two (returns c)) returns)

@@ -2,7 +2,7 @@
 use borrow.Author.Rules.{rules}
 use Rattle.pen.specs.Laws.{◌▹◌}
 use Rattle.grammar.specs.Grammar.{shape}
-use Rattle.stmt.specs.Laws.{same-one}
+use Rattle.stmt.specs.Laws.{same_one}
 use Rattle.stmt.proofs.create.create_virtual_table.Statement.{statement}
 use Rattle.stmt.proofs.create.create_virtual_table.Tie as tie
 
@@ -20,7 +20,7 @@ returns c d r h =
     at-word.word.ensures _ _ r
     ▹ at-word2.word2.ensures _ _ r
     ▹ at-word3.word3.ensures _ _ r
-    ▹ at-if-not-exists.if-not-exists.ensures _ _ r _ h
+    ▹ at-if-not-exists.if_not_exists.ensures _ _ r _ h
     ▹ at-run.run.ensures _ r
     ▹ at-word4.word4.ensures _ _ r
     ▹ at-run2.run2.ensures _ r
@@ -32,4 +32,4 @@ create-virtual-table-spec =
     (tie.spec
     (λ c κs. search rules) (λ c κs. search rules) (λ c κs. search rules) (λ c κs. search rules)
     (λ c κs. search rules) (λ c κs. search rules) (λ c κs. search rules) (λ c κs. search rules)
-    (λ c. same-one (returns c 0)) returns)
+    (λ c. same_one (returns c 0)) returns)

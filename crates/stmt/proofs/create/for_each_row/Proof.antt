@@ -1,7 +1,7 @@
 -- `create::for_each_row` writes its words under the flag.
 use borrow.Author.Rules.{rules}
 use Rattle.pen.specs.Laws.{◌▹◌}
-use Rattle.pen.specs.Places.{under, not-under}
+use Rattle.pen.specs.Places.{under, not_under}
 use Rattle.stmt.proofs.create.for_each_row.Statement.{statement}
 use Rattle.stmt.proofs.create.for_each_row.Tie as tie
 
@@ -16,7 +16,7 @@ returns c e d r bit h =
     ▹ at-word3.word3.ensures e d r)
 
 returns-2 : tie.Need-returns-2
-returns-2 c e d r bit h = not-under h c.if1.false
+returns-2 c e d r bit h = not_under h c.if1.false
 
 pub for-each-row-spec : {M : Type 1} → statement M
 for-each-row-spec =

@@ -1,7 +1,7 @@
 -- `create::not_null` writes its words under the flag.
 use borrow.Author.Rules.{rules}
 use Rattle.pen.specs.Laws.{◌▹◌}
-use Rattle.pen.specs.Places.{under, not-under}
+use Rattle.pen.specs.Places.{under, not_under}
 use Rattle.stmt.proofs.create.not_null.Statement.{statement}
 use Rattle.stmt.proofs.create.not_null.Tie as tie
 
@@ -13,7 +13,7 @@ returns c e d r bit h =
     under h at-if1.if1.true (at-word.word.ensures e d r ▹ at-word2.word2.ensures e d r)
 
 returns-2 : tie.Need-returns-2
-returns-2 c e d r bit h = not-under h c.if1.false
+returns-2 c e d r bit h = not_under h c.if1.false
 
 pub not-null-spec : {M : Type 1} → statement M
 not-null-spec =

@@ -1,6 +1,6 @@
 -- `drop::drop_domain` writes its entry, a step a call.
 use borrow.Author.Rules.{rules}
-use Rattle.pen.specs.Laws.{◌▹◌, a-said}
+use Rattle.pen.specs.Laws.{◌▹◌, a_said}
 use Rattle.grammar.specs.Grammar.{shape}
 use mathlib.Core.Path.{refl}
 use Rattle.stmt.proofs.drop.drop_domain.Statement.{statement}
@@ -14,8 +14,8 @@ returns c d r h =
     let at-said = at-if-exists.before.before.before.before in
     let at-word = at-said.before.before.before.before.before in
     at-word.word.ensures _ _ r
-    ▹ a-said _ refl at-said.said.ensures
-    ▹ at-if-exists.if-exists.ensures _ _ r _ h
+    ▹ a_said _ refl at-said.said.ensures
+    ▹ at-if-exists.if_exists_lem.ensures _ _ r _ h
     ▹ at_name.name.ensures _ r
 
 pub drop-domain-spec : {M : Type 1} → statement M

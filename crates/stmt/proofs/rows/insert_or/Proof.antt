@@ -1,6 +1,6 @@
 -- `rows::insert_or` writes REPLACE, or INSERT and any OR.
 use borrow.Author.Rules.{rules}
-use Rattle.stmt.specs.Laws.{replacing-is, replacing-not}
+use Rattle.stmt.specs.Laws.{replacing_is, replacing_not}
 use Rattle.stmt.proofs.rows.insert_or.Statement.{statement}
 use Rattle.stmt.proofs.rows.insert_or.Tie as tie
 
@@ -9,7 +9,7 @@ returns c d r =
     let at-word = c.before.before.before in
     let at-if1 = at-word.before.before in
     let at_read = at-if1.before.before in
-    replacing-is at_read.read.ensures at-if1.if1.true (at-word.word.ensures _ d r) c.pass.ensures
+    replacing_is at_read.read.ensures at-if1.if1.true (at-word.word.ensures _ d r) c.pass.ensures
 
 returns-2 : tie.Need-returns-2
 returns-2 c d r =
@@ -17,7 +17,7 @@ returns-2 c d r =
     let at-word2 = at-clause.before.before.before.before in
     let at-if1 = at-word2.before.before in
     let at_read = at-if1.before.before in
-    replacing-not at_read.read.ensures at-if1.if1.false (at-word2.word2.ensures _ d r) (at-clause.clause.ensures d r)
+    replacing_not at_read.read.ensures at-if1.if1.false (at-word2.word2.ensures _ d r) (at-clause.clause.ensures d r)
 
 pub insert-or-spec : {M : Type 1} → statement M
 insert-or-spec =
