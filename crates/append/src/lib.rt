@@ -1,6 +1,8 @@
 // Append over the stream record (01, sections 1 and 3): refusals 1, 4, 2, 8 in that order, else the token's bytes.
 //
 // `step` takes the record by value and returns it; `append` is the same over a lent record.
+#![tactic(auto)]
+
 ghost use Rattle.std.specs.Prelude.{◌≡◌, ◌-◌, ◌≤◌, true, length};
 ghost use Rattle.spelling.specs.Spelling.{spelling};
 ghost use Rattle.append.specs.Append.{Appends, news, number_of, number as number', place as place', present as present', unsound as unsound'};
@@ -28,7 +30,7 @@ const UNKNOWN: u64 = 4;
 const NO_ROOM: u64 = 8;
 
 // The stream record: the bit, the bytes written so far, and where they end: the line, and the bytes since the last newline.
-#[derive(Drop)]
+#[derive(Clone, Copy)]
 pub struct Stream {
     pub spaced: bool,
     pub count: usize,
@@ -36,7 +38,7 @@ pub struct Stream {
     pub column: usize,
 }
 
-#[derive(Drop)]
+#[derive(Clone, Copy)]
 pub enum Answer {
     // So many bytes were added.
     Added(usize),
@@ -53,13 +55,13 @@ pub enum Answer {
 }
 
 // What is known before the bytes are measured.
-#[derive(Drop)]
+#[derive(Clone, Copy)]
 pub enum Check {
     Fine,
     Refused(Answer),
 }
 
-#[derive(Drop)]
+#[derive(Clone, Copy)]
 pub struct Next {
     pub answer: Answer,
     pub rec: Stream,

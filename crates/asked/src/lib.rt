@@ -1,4 +1,6 @@
 // What the words in front of the names of a program's files ask for: `--strict` and `--sqlite` (02, vii and viii).
+#![tactic(auto)]
+
 ghost use Rattle.std.specs.Prelude.{◌≡◌};
 ghost use Rattle.laws.specs.Bytes.{same as same'};
 ghost use Rattle.asked.specs.Words.{option_of};
@@ -11,7 +13,7 @@ const SQLITE: u32 = 2;
 const NO_OPTION: u32 = 0;
 
 // The options that the first words ask for, and how many words there are in front of the first name.
-#[derive(Drop)]
+#[derive(Clone, Copy)]
 pub struct Asked {
     pub options: u32,
     pub words: usize,

@@ -1,4 +1,6 @@
 // The five ASCII blanks of 01, section 1. White space in section 4 is another test.
+#![tactic(auto)]
+
 ghost use Rattle.std.specs.Prelude.{◌≡◌};
 ghost use Rattle.blank.specs.Blank.{blank as blank', all_blank as all_blank'};
 

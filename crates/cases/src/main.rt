@@ -3,6 +3,8 @@
 // The files of data/, in the order of their use: section 6's tree and its text; a CHECK with the source `a--b`; a
 // FromClause and a Sub in turn down to depth 64 and to 65, with an empty text; section 6's tree with a wrong mark, and a
 // text that is not UTF-8; 65,537 bytes; and two tokens that each have all of a text of 65,536 bytes.
+#![tactic(auto)]
+
 use libc::STDOUT_FILENO;
 use mode::NO_OPTIONS;
 use render::Outcome;

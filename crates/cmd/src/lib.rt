@@ -1,4 +1,6 @@
 // Cmd and the root of a tree (01, section 2): what a whole tree writes.
+#![tactic(auto)]
+
 ghost use Rattle.std.specs.Prelude.{◌≡◌};
 ghost use Rattle.record.specs.declared.Record.{Record as Record'};
 ghost use Rattle.grammar.specs.Kind.{Cmd, Select};

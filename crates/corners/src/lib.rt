@@ -1,4 +1,6 @@
 // The corners kept from the crate (01, section 4), and the numbers.
+#![tactic(auto)]
+
 ghost use Rattle.std.specs.Prelude.{◌≡◌, [], ◌∷◌, cond, eqb, take, drop};
 ghost use Rattle.grammar.specs.Kind.{TEXT as TEXT'};
 ghost use Rattle.tokens.specs.Tokens.{anything};

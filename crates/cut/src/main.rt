@@ -1,4 +1,6 @@
 // Cuts standard input by the reading rule and prints a line for each lexeme (02, iii).
+#![tactic(auto)]
+
 use files::ROOM;
 use libc::STDIN_FILENO;
 

@@ -1,4 +1,6 @@
 // Cuts a text by the reading rule and prints a line for each lexeme (02, iii): its kind, where it starts and how long it is.
+#![tactic(auto)]
+
 ghost use Rattle.std.specs.Prelude.{◌≡◌, ◌+◌, ◌≤◌, ◌<◌, ◌^◌, length};
 ghost use Rattle.cutter.specs.Line.{Stored, name_of, spaced, line_of};
 

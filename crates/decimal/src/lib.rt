@@ -1,4 +1,6 @@
 // A number of 64 bits with a sign, as decimal text in ASCII, by subtraction of powers of ten alone.
+#![tactic(auto)]
+
 ghost use Rattle.std.specs.Prelude.{◌≡◌, ◌+◌, ◌*◌, ◌^◌, ◌≤◌, ◌<◌, length};
 ghost use Rattle.std.proofs.lemmas.List.Edits.{sets};
 ghost use Rattle.decimal.specs.Decimal.{digit, natural, magnitude as magnitude', sign};
@@ -16,14 +18,14 @@ const ZERO: u8 = b'0';
 const MINUS: u8 = b'-';
 
 // The text of a number: the first `len` of the bytes, and zero bytes behind it.
-#[derive(Drop)]
+#[derive(Clone, Copy)]
 pub struct Decimal {
     pub bytes: [u8; SIZE],
     pub len: usize,
 }
 
 // How often a power of ten was taken off a number, and what is left of it.
-#[derive(Drop)]
+#[derive(Clone, Copy)]
 struct Taken {
     digit: u64,
     rest: u64,

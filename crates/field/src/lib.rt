@@ -2,6 +2,8 @@
 //
 // The records are walked once more, on child records, with the remaining depth falling from 24. What the walk knows of a place is whether it
 // takes a ported node, and of a LIST's place whether its elements do: a kind's places are a number, a byte for each child.
+#![tactic(auto)]
+
 ghost use Rattle.std.specs.Prelude.{◌≡◌, ◌≤◌, ◌<◌};
 ghost use Rattle.laws.specs.Among.{among};
 ghost use Rattle.record.specs.Record.{record_at};
@@ -38,7 +40,7 @@ const ROOT: u64 = 3;
 const NONE_HELD: u64 = 0;
 
 // What the profile comes to.
-#[derive(Drop)]
+#[derive(Clone, Copy)]
 pub enum Verdict {
     // What measure comes to.
     Measured(Outcome),
@@ -47,7 +49,7 @@ pub enum Verdict {
 }
 
 // What a walk comes to: that a record breaks the profile, and which; or the index behind the walk.
-#[derive(Drop)]
+#[derive(Clone, Copy)]
 struct Found {
     broken: bool,
     at: usize,

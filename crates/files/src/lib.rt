@@ -1,4 +1,6 @@
 // What the programs share: reading a file or standard input to its end, and the one line that answers what cannot be done.
+#![tactic(auto)]
+
 ghost use Rattle.io.specs.Counts.{IsPrefixLen};
 
 use libc::STDOUT_FILENO;
@@ -7,7 +9,7 @@ use libc::STDOUT_FILENO;
 pub const ROOM: usize = 65537;
 
 // What reading a file came to: whether all of it was read, or as much as there is room for, and how many bytes that is.
-#[derive(Drop)]
+#[derive(Clone, Copy)]
 pub struct Got {
     pub whole: bool,
     pub len: usize,

@@ -2,6 +2,8 @@
 //
 // A place is named by its number. Each table is a `match`, a line for each place or kind: it is looked up where it lies, and
 // never made. Its last line is never reached; its number is one that no other line has, which keeps the look-up a single load.
+#![tactic(auto)]
+
 pub mod kind;
 
 ghost use Rattle.std.specs.Prelude.{◌≡◌, ◌%◌, ◌<◌};

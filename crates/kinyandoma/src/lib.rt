@@ -1,4 +1,6 @@
 // The calls for the engine, as extern "C" (01, section 9): numbers and byte slices, answers as number * 2^32 + place.
+#![tactic(auto)]
+
 ghost use Rattle.wire.specs.Wire.{Crosses};
 
 // The calls over whole trees.

@@ -1,4 +1,6 @@
 // What the replaying programs share: reading a case from standard input, and printing a line for it.
+#![tactic(auto)]
+
 ghost use Rattle.std.specs.Prelude.{◌≡◌, false, [], ◌∷◌, ◌+◌, ◌*◌, ◌^◌, ◌≤◌, ◌<◌, length};
 ghost use Rattle.laws.specs.Little.{from_little};
 ghost use Rattle.io.specs.Counts.{IsPrefixLen};

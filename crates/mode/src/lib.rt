@@ -1,4 +1,6 @@
 // What a caller may ask for beside 01 (02, vii and viii): options, as the bits of a number, and the mode that they stand for, handed on by value.
+#![tactic(auto)]
+
 ghost use Rattle.std.specs.Prelude.{◌≡◌};
 ghost use Rattle.mode.specs.Options.{is_sqlite, edition_of, mode_of};
 
@@ -9,7 +11,7 @@ pub const NO_OPTIONS: u32 = 0;
 const BIT: u32 = 2;
 
 // What the text is written for.
-#[derive(Drop)]
+#[derive(Clone, Copy)]
 pub enum Edition {
     // As the crate writes it.
     Crate,
@@ -17,7 +19,7 @@ pub enum Edition {
     Sqlite,
 }
 
-#[derive(Drop)]
+#[derive(Clone, Copy)]
 pub struct Mode {
     // 02's switch: a CHECK's source that swallows its bracket is refused.
     pub strict: bool,

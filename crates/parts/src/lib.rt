@@ -1,4 +1,6 @@
 // What fmt.rs's renderers share: runs and texts, lists of runs, parts that are there if a field is given or filled.
+#![tactic(auto)]
+
 ghost use Rattle.std.specs.Prelude.{◌≡◌, [], take, drop, cond};
 ghost use Rattle.grammar.specs.Shape.{word as word', when, slot, commas as commas', row, lines as lines', tuples as tuples', filled, ◌·◌};
 ghost use Rattle.grammar.specs.Grammar.{run as run', text as text', parens, clause as clause', on_conflict as on_conflict', if_not_exists as if_not_exists'};

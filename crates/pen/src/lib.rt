@@ -1,4 +1,6 @@
 // The pen: it goes along the records of a tree and writes tokens to a sink, as fmt.rs does to its stream.
+#![tactic(auto)]
+
 ghost use Rattle.std.specs.Prelude.{◌≡◌, [], ◌∷◌, ◌+◌, min, length};
 ghost use Rattle.record.specs.Record.{count as count'};
 ghost use Rattle.store.specs.Laid.{lead};
@@ -13,7 +15,7 @@ use store::Laid;
 use stream::Sink;
 
 // The sink, and the index of the next record.
-#[derive(Drop)]
+#[derive(Clone, Copy)]
 pub struct Pen {
     pub sink: Sink,
     pub next: usize,

@@ -1,11 +1,13 @@
 // Where a text ends (02, ix): how many newlines are in it, and how many bytes stand behind the last one.
+#![tactic(auto)]
+
 ghost use Rattle.std.specs.Prelude.{◌≡◌, ◌+◌, ◌<◌, ◌^◌};
 ghost use Rattle.position.specs.Position.{newline as newline', next as next', lines as lines', column};
 
 const NEWLINE: u8 = 0x0A;
 
 // What is found of some bytes: their newlines, and the bytes behind the last one, which are all where there is none.
-#[derive(Drop)]
+#[derive(Clone, Copy)]
 pub struct Found {
     pub lines: usize,
     pub behind: usize,

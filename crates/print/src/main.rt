@@ -1,4 +1,6 @@
 // Prints the text of a tree: of two named files, the tree and then its text (01, section 6), with the options in front of them (02, vii and viii).
+#![tactic(auto)]
+
 
 // The program's own name and the two files.
 const ARGS: usize = 3;

@@ -1,4 +1,6 @@
 // Prints the text of a tree that stands in two files (01, section 6): the text, or a refusal, or that they cannot be read.
+#![tactic(auto)]
+
 ghost use Rattle.io.specs.Counts.{IsPrefixLen};
 
 use libc::STDOUT_FILENO;
@@ -11,7 +13,7 @@ pub const ROOM: usize = 65537;
 const OUTPUT: usize = 65536;
 
 // What reading a file came to: whether all of it was read, or as much as there is room for, and how many bytes that is.
-#[derive(Drop)]
+#[derive(Clone, Copy)]
 pub struct Got {
     pub whole: bool,
     pub len: usize,

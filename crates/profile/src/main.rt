@@ -1,4 +1,6 @@
 // Checks a tree against the field profile (02, xi): of two named files, the tree and then its text, with the options in front of them (02, vii and viii).
+#![tactic(auto)]
+
 use printer::ROOM;
 
 // The program's own name and the two files.

@@ -1,5 +1,7 @@
 // A token that is laid at once, with its refusals (01, section 1): most tokens are a plain value alone or a fixed spelling alone, and
 // there is room for them. For all others nothing is done, and `append` has the answer.
+#![tactic(auto)]
+
 ghost use Rattle.std.specs.Prelude.{◌≡◌, false, ◌||◌, [], ◌++◌, length, get_or};
 ghost use Rattle.spelling.specs.Spelling.{spelling};
 ghost use Rattle.store.specs.Laid.{lead, room_for};
@@ -32,7 +34,7 @@ const TIGHT: u64 = 0x28_0000_0008_0052;
 const OPENING: u64 = 0x8_0000_0000_0041;
 
 // What comes of a token that may be laid at once.
-#[derive(Drop)]
+#[derive(Clone, Copy)]
 pub enum Quick {
     // Nothing was done.
     Not,

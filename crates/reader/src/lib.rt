@@ -1,4 +1,6 @@
 // One lexeme of a text, by the reading rule (01, section 5; 02, iii): its kind, where it starts, and the rest of the text behind it.
+#![tactic(auto)]
+
 ghost use Rattle.std.specs.Prelude.{◌≡◌, ◌+◌, ◌≤◌, ◌<◌, length, drop, get_or, false, ◌&&◌};
 ghost use Rattle.laws.specs.Among.{among};
 ghost use Rattle.reading.specs.Bytes.{digit as digit', word_first as word_first', word_byte as word_byte', blanks, variables, quotes, marks, exes, apostrophe};
@@ -48,7 +50,7 @@ const CASE: u8 = 0x20;
 const UNCLOSED: usize = 0;
 
 // What stands next in a text: a lexeme of a kind from `start` to `end`, the end, or what cannot be read. The rest begins at `end`.
-#[derive(Drop)]
+#[derive(Clone, Copy)]
 struct Lexeme {
     kind: u32,
     start: usize,

@@ -1,4 +1,6 @@
 // The records of a tree (01, section 2): sixteen bytes each, their numbers little-endian.
+#![tactic(auto)]
+
 ghost use Rattle.std.specs.Prelude.{◌≡◌, [], ◌∷◌, ◌+◌, ◌≤◌, length};
 ghost use Rattle.laws.specs.Little.{from_little};
 ghost use Rattle.record.specs.Record.{record_of, count as count', record_at as record_at', number_of};
@@ -23,7 +25,7 @@ const SIGN: u64 = 0x8000_0000_0000_0000;
 const ONES: u64 = 0xFFFF_FFFF_FFFF_FFFF;
 
 // A record's numbers; in a NUMBER, `start` and `len` are the low and the high half of its number.
-#[derive(Drop)]
+#[derive(Clone, Copy)]
 pub struct Record {
     pub mark: u16,
     pub kind: u16,

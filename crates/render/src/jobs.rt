@@ -22,7 +22,7 @@ const OUTSIDE: u64 = 1;
 const EACH_TAKES: u64 = 200;
 
 #[repr(C)]
-#[derive(Drop)]
+#[derive(Clone, Copy)]
 pub struct Job {
     // Where its tree begins in the tree buffer, and how many bytes it has.
     pub tree_start: u64,
@@ -35,7 +35,7 @@ pub struct Job {
 }
 
 // A job that is done, and where the next text begins.
-#[derive(Drop)]
+#[derive(Clone, Copy)]
 struct Step {
     job: Job,
     next: usize,

@@ -1,6 +1,8 @@
 // The whole-tree calls (01, section 3): measure gives the length, render writes.
 //
 // Both check the tree first, and both write the text: what there is no room for is counted. So the two cannot disagree.
+#![tactic(auto)]
+
 ghost use Rattle.std.specs.Prelude.{◌≡◌, ◌≤◌, length as length'};
 ghost use Rattle.std.proofs.lemmas.List.Edits.{sets};
 ghost use Rattle.spelling.specs.Table.{bytes};
@@ -21,7 +23,7 @@ const NO_ROOM: u64 = 8;
 // The bytes of a draft: few texts of a schema are longer.
 const DRAFT: usize = 1024;
 
-#[derive(Drop)]
+#[derive(Clone, Copy)]
 pub enum Outcome {
     // Measured or written: so many bytes.
     Done(usize),
@@ -94,7 +96,7 @@ fn fair_copy(
     ensures { out.new ≡ sets out.old 0 (text_in edition tree.now text.now) }
 {
     if length <= draft.len() {
-        bytes::copy(&draft[..length], out);
+        out[..length].copy_from_slice(&draft[..length]);
     } else {
         write(out, pool, tree, text, edition);
     }

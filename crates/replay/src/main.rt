@@ -3,6 +3,8 @@
 //
 // A case is a byte, the number of its tokens, and the tokens. A token is its word and the length of its value, each of
 // two bytes, little-endian, and the value's bytes.
+#![tactic(auto)]
+
 ghost use Rattle.std.specs.Prelude.{◌≡◌, ◌≤◌, length};
 ghost use Rattle.replay.specs.Case.{room, Within};
 
@@ -15,7 +17,7 @@ const HEAD: usize = 4;
 const TEXT: usize = 65536;
 
 // How a case stands.
-#[derive(Drop)]
+#[derive(Clone, Copy)]
 enum Case {
     // Each token so far was appended, and left this record.
     Written(Stream),

@@ -1,6 +1,8 @@
 // Replays texts from standard input through the reader (02, iii), and prints for each what `cut` prints, and an empty line.
 //
 // A case is the length of its text, four bytes, little-endian, and the text's bytes.
+#![tactic(auto)]
+
 use libc::STDIN_FILENO;
 
 // The bytes before a text: its length.

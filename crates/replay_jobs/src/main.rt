@@ -4,6 +4,8 @@
 //
 // A case is its options, the number of its jobs and the lengths of its trees, its text and its output, each of four bytes, little-endian; for each job
 // the start and the length of its tree, each of eight; the trees' bytes, and the text's.
+#![tactic(auto)]
+
 ghost use Rattle.std.specs.Prelude.{◌≡◌, ◌+◌, ◌≤◌, length};
 
 use libc::STDIN_FILENO;

@@ -2,6 +2,8 @@
 //
 // A case is its options, the length of its tree and the length of its text, each of four bytes, little-endian, the tree's bytes, and
 // the text's bytes.
+#![tactic(auto)]
+
 use field::Verdict;
 use libc::STDIN_FILENO;
 

@@ -1,4 +1,6 @@
 // Whether a text's two parts are WITHOUT and ROWID, each letter in either case (02, viii).
+#![tactic(auto)]
+
 ghost use Rattle.std.specs.Prelude.{◌≡◌, ◌+◌, ◌≤◌, length, take, drop};
 ghost use Rattle.rowid.specs.Rowid.{upper as upper', is_word as is_word', names as names'};
 

@@ -2,6 +2,8 @@
 //
 // A rule is asked for behind 5 and before 6, so it is asked only of records that 01's check found sound so far. These are walked once more, on child
 // records, with the remaining depth falling from 64; with no rule in force they are not.
+#![tactic(auto)]
+
 ghost use Rattle.std.specs.Prelude.{◌≡◌, true, ◌≤◌};
 ghost use Rattle.tree.specs.Check.{inside as inside', longest, answer_in, ChecksIn};
 ghost use Rattle.tree.specs.Told.{taken};
@@ -40,7 +42,7 @@ const TABLE_RULES: u64 = ROWID * BYTE * BYTE;
 const DEEPEST: usize = 64;
 
 // What a walk comes to: the number of a rule that is broken, and the record; or 0, and the index behind the walk.
-#[derive(Drop)]
+#[derive(Clone, Copy)]
 struct Found {
     fault: u64,
     at: usize,

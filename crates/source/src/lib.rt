@@ -1,4 +1,6 @@
 // Whether a CHECK source ends inside a block comment or inside a quote (02, vii).
+#![tactic(auto)]
+
 ghost use Rattle.std.specs.Prelude.{◌≡◌, []};
 ghost use Rattle.source.specs.Source.{is_quote as is_quote', is_inside, ends_inside as ends_inside'};
 ghost use Rattle.source.specs.Reading.{from, Leads};
@@ -19,7 +21,7 @@ const DOUBLE_QUOTE: u8 = 0x22;
 const BACKTICK: u8 = 0x60;
 
 // Where the reading is.
-#[derive(Drop)]
+#[derive(Clone, Copy)]
 enum At {
     // Outside comments and quotes.
     Outside,

@@ -2,6 +2,8 @@
 //
 // It has a row for each token number, an offset and a length, and a pool of bytes. The pool is made once, by `pool`, and
 // lent to whoever looks a spelling up.
+#![tactic(auto)]
+
 pub mod token;
 
 ghost use Rattle.std.specs.Prelude.{◌≡◌, ◌/◌, ◌%◌};

@@ -1,4 +1,6 @@
 // Prints the spelling table, a line for each number: the number, then its spelling, if it has one, or ` unknown`.
+#![tactic(auto)]
+
 use libc::STDOUT_FILENO;
 
 // Numbers from here on are not printed.

@@ -1,4 +1,6 @@
 // The statements (01, section 2, kinds 32 to 64): a function a kind, with fmt.rs's names, each proved to write its entry.
+#![tactic(auto)]
+
 ghost use Rattle.grammar.specs.Kind.{AlterTable, Delete, Savepoint};
 ghost use Rattle.grammar.specs.Shape.{slot};
 ghost use Rattle.grammar.specs.Grammar.{from, node, statement};

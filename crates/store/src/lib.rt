@@ -1,4 +1,6 @@
 // Bytes stored in an output: as many as there is room for, or all of them behind a space where there is room for all.
+#![tactic(auto)]
+
 ghost use Rattle.std.specs.Prelude.{◌≡◌, true, ◌+◌, ◌-◌, ◌≤◌, ◌<◌, min, [], ◌∷◌, length, take};
 ghost use Rattle.std.proofs.lemmas.List.Edits.{sets};
 ghost use Rattle.store.specs.Laid.{lead, most, laid_to, laid_out};
@@ -13,7 +15,7 @@ const EIGHT: usize = 8;
 const SIXTEEN: usize = 16;
 
 // What lay_all answers.
-#[derive(Drop)]
+#[derive(Clone, Copy)]
 pub enum Laid {
     // There are none, or there is no room for them all.
     Not,
@@ -26,7 +28,7 @@ fn copy_to(out: &mut [u8], at: usize, v: &[u8])
     requires { at + length v.now ≤ length out.old }
     ensures { out.new ≡ sets out.old at v.now }
 {
-    bytes::copy(v, &mut out[at..]);
+    out[at..at + v.len()].copy_from_slice(v);
 }
 
 // The first four bytes of v from at on.
@@ -35,7 +37,7 @@ fn four(out: &mut [u8], at: usize, v: &[u8])
     ensures { out.new ≡ sets out.old at (take 4 v.now) }
 {
     let mut b = [0u8; FOUR];
-    bytes::copy(&v[..FOUR], &mut b);
+    b.copy_from_slice(&v[..FOUR]);
     copy_to(out, at, &b);
 }
 
@@ -45,7 +47,7 @@ fn eight(out: &mut [u8], at: usize, v: &[u8])
     ensures { out.new ≡ sets out.old at (take 8 v.now) }
 {
     let mut b = [0u8; EIGHT];
-    bytes::copy(&v[..EIGHT], &mut b);
+    b.copy_from_slice(&v[..EIGHT]);
     copy_to(out, at, &b);
 }
 
@@ -55,7 +57,7 @@ fn sixteen(out: &mut [u8], at: usize, v: &[u8])
     ensures { out.new ≡ sets out.old at (take 16 v.now) }
 {
     let mut b = [0u8; SIXTEEN];
-    bytes::copy(&v[..SIXTEEN], &mut b);
+    b.copy_from_slice(&v[..SIXTEEN]);
     copy_to(out, at, &b);
 }
 

@@ -2,6 +2,8 @@
 //
 // The sink takes everything: a byte that finds no room in the output is only counted, so to measure is to
 // append to an empty output, and measuring and writing are one function.
+#![tactic(auto)]
+
 ghost use Rattle.std.specs.Prelude.{◌≡◌, [], ◌∷◌};
 ghost use Rattle.stream.specs.Stream.{some, tight as tight', opens as opens', gap as gap', gapped, blob as blob', spelled_bit, written, valued_bit};
 ghost use Rattle.spelling.specs.Token.{TK_STRING as TK_STRING'};
@@ -18,7 +20,7 @@ const SPACE: u8 = b' ';
 const QUOTE: u8 = b'\'';
 
 // It is handed on field by field: a copy of the whole would move its unused bytes too, and wait for them.
-#[derive(Drop)]
+#[derive(Clone, Copy)]
 pub struct Sink {
     pub spaced: bool,
     pub at: usize,

@@ -2,6 +2,8 @@
 //
 // `check_row` calls itself on child records, with the remaining depth falling from 64. What the walk of records comes to is one
 // number: the index behind them, or from REFUSED on a refusal.
+#![tactic(auto)]
+
 ghost use Rattle.std.specs.Prelude.{◌≡◌, true, [], ◌∷◌, map, ◌+◌, ◌-◌, ◌%◌, ◌≤◌, ◌<◌, replicate};
 ghost use Rattle.utf8.specs.Rfc3629.{boundary as boundary'};
 ghost use Rattle.spelling.specs.Spelling.{known};
@@ -54,7 +56,7 @@ const ENDS: u64 = 7;
 // A refusal of the walk is its number times this, and the index of its record; an index is below it.
 const REFUSED: u64 = 0x1_0000_0000;
 
-#[derive(Drop)]
+#[derive(Clone, Copy)]
 pub enum Answer {
     Admitted,
     // The tree is empty, over_long, or no row of whole records.

@@ -1,4 +1,6 @@
 // UTF-8 (RFC 3629): whether bytes are a text, where the longest text that begins them ends, and where characters start.
+#![tactic(auto)]
+
 ghost use Rattle.std.specs.Prelude.{◌≡◌, ◌<◌, ◌≤◌, ◌^◌, true, length, take};
 ghost use Rattle.utf8.specs.Rfc3629.{Encoded, number as number', place as place', tail as tail', boundary as boundary'};
 ghost use Rattle.utf8.specs.Scan.{ones as ones', low as low', high as high', second as second', two as two', three as three', four as four', width, long as long', begins as begins', broken_at};
@@ -56,7 +58,7 @@ const PLAIN_FIRST: u8 = 0x20;
 const ABOVE_CONTROLS: u64 = 0x1_9F9F_9F9F;
 
 // What the check answers.
-#[derive(Drop)]
+#[derive(Clone, Copy)]
 pub enum Encoding {
     // The bytes are a text.
     Valid,

@@ -1,4 +1,6 @@
 // The parts of a text between its White_Space characters (01, section 4). The text is UTF-8; any bytes are taken.
+#![tactic(auto)]
+
 ghost use Rattle.std.specs.Prelude.{◌≡◌, [], ◌∷◌, ◌+◌, ◌-◌, ◌≤◌, ◌<◌, length, drop};
 ghost use Rattle.laws.specs.Among.{among};
 ghost use Rattle.white.specs.White.{white_length as white_length'};
@@ -63,7 +65,7 @@ const THREE_BYTES: usize = 3;
 const ONE_PART: usize = 1;
 
 // How many parts a text has, and where the second one stands: 0 and 0 where there is none.
-#[derive(Drop)]
+#[derive(Clone, Copy)]
 pub struct Parts {
     pub count: usize,
     pub start: usize,
@@ -71,7 +73,7 @@ pub struct Parts {
 }
 
 // Where a part of a text stands.
-#[derive(Drop)]
+#[derive(Clone, Copy)]
 pub struct Part {
     pub start: usize,
     pub len: usize,

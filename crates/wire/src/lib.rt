@@ -2,6 +2,8 @@
 //
 // A token is laid at once where it may be. The way with all refusals is a function that two others call: so the compiler
 // leaves it by itself, and the quick ways need few registers.
+#![tactic(auto)]
+
 ghost use Rattle.std.specs.Prelude.{◌≡◌, ◌+◌, ◌-◌, ◌*◌, ◌%◌, ◌≤◌, ◌<◌, ◌^◌, ◌++◌, length, take, drop, true, ◌&&◌};
 ghost use Rattle.laws.specs.Little.{little, from_little};
 ghost use Rattle.stream.specs.Stream.{leaves};
@@ -144,7 +146,7 @@ fn put_number(rec: &mut [u8], at: usize, n: u64)
     ensures { rec.new ≡ take at rec.old ++ (little 8 n ++ drop 8 (drop at rec.old)) }
 {
     let bytes = eight(n);
-    bytes::copy(&bytes, &mut rec[at..]);
+    rec[at..at + bytes.len()].copy_from_slice(&bytes);
 }
 
 // The record's bytes are written.

@@ -1,5 +1,7 @@
 // The spellings as numbers, for a caller that looks up one and has no pool: a `match` over constants is a table that is
 // not made anew in each call.
+#![tactic(auto)]
+
 ghost use Rattle.std.specs.Prelude.{◌≡◌, ◌%◌, length};
 ghost use Rattle.spelling.specs.Spelling.{spelling};
 ghost use Rattle.words.specs.Words.{first as first', rest as rest', span as span', padded, bytes_of};
@@ -13,7 +15,7 @@ const HELD: usize = 8;
 const BITS: usize = 8;
 
 // A spelling: the first len of the bytes, and zeros behind it.
-#[derive(Drop)]
+#[derive(Clone, Copy)]
 pub struct Word {
     pub bytes: [u8; 16],
     pub len: usize,

@@ -1,0 +1,13 @@
+-- `utf8::broken` meets its contract: it goes by the test that the definition goes by. Assumes nothing.
+use mathlib.Core.Path.{◌∙◌, sym}
+use borrow.Author.Rules.{rules}
+use Rattle.utf8.specs.Scan.{broken_at}
+use Rattle.utf8.proofs.broken.Goals as goal
+
+pub returns-then-begins : goal.returns-then-begins
+unfolding broken_at
+returns-then-begins c = rw (sym c.begins.ensures ∙ c.if-begins.true)
+
+pub returns : goal.returns
+unfolding broken_at
+returns c = rw (sym c.begins.ensures ∙ c.if-begins.false)
