@@ -1,6 +1,6 @@
 -- The ways through a renderer of a place, of an optional part and of a part under a flag or a value of the flags: one law each.
 use Prim.Native.Nat.{ℕ, zero, suc, ◌+◌, ◌-◌, ◌≤◌}
-use Rattle.std.proofs.Common.{arith, sub-one, ◌∙◌, ap, sym}
+use Rattle.std.proofs.Common.{arith, sub-one, ◌∙◌, ap, sym, subst}
 use Rattle.std.specs.Prelude.{◌≡◌, List, [], ◌∷◌, Bool, cond, not, ◌||◌, ltb, take, drop}
 use Rattle.std.proofs.Math.Path.{refl}
 use Rattle.std.proofs.Math.Bool.{true, false, or-true}
@@ -167,7 +167,7 @@ not_deep e d n j z h = rw (z, h)
 module _ {t x w : List ℕ} {g : Scope} {d : ℕ} {r k : Record} {a b : Spot} (read : k ≡ record_at t a.0.next) (h : Writes (lent t x g) w d r (slot run) a b) where
   pub other : {ks : List ℕ} → among k.kind ks ≡ false → Writes (lent t x g) w d r (slot (node ks)) a b
   unfolding means placed allowed
-  other {ks} z = record { puts = λ u. rw (← read, z) (rw (← read) at (h.puts u)) }
+  other {ks} z = record { puts = λ u. rw (subst (λ (x : Record). among x.kind ks ≡ false) read z) (h.puts u) }
 
   pub shallow : {ks : List ℕ} → d ≡ 0 → all (λ n. not (leaf n)) ks ≡ true → Writes (lent t x g) w d r (slot (node ks)) a b
   unfolding means placed allowed

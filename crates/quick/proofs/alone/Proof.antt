@@ -16,7 +16,7 @@ returns-3 c =
     let at-if2 = c.before.before in
     let at-present = at-if2.before in
     let at-if1 = at-present.before in
-    is_other _ _ _ _ at-if1.if1.false (omega (arith, at-if1.before.ranges)) at-present.present.ensures at-if2.if2.false c.before.number_of_lem.ensures c.other.ensures
+    is_other _ _ _ _ at-if1.if1.false (omega (arith, at-if1.before.ranges)) at-present.present.ensures at-if2.if2.false c.before.number_of.ensures c.other.ensures
 
 pub alone-spec : {M : Type 1} → statement M
 alone-spec =

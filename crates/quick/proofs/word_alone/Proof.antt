@@ -33,7 +33,7 @@ bare-requires c κs =
     let at-number-of = at_of.before in
     let at-if1 = at-number-of.before in
     let word = at_of.of in (
-      word_is _ _ _ at-number-of.number_of_lem.ensures (begins _ _ word.result.bytes word.ensures.0 word.ensures.1),
+      word_is _ _ _ at-number-of.number_of.ensures (begins _ _ word.result.bytes word.ensures.0 word.ensures.1),
       sym at-if1.before.present.ensures ∙ at-if1.if1.false,
     )
 
@@ -46,7 +46,7 @@ returns-2 c =
     let start = at-if1.before.before.before in
     let word = at_of.of in
     word_comes start.args.rec start.args.out.now _ _ _ _
-    (word_is _ _ _ at-number-of.number_of_lem.ensures (begins _ _ word.result.bytes word.ensures.0 word.ensures.1))
+    (word_is _ _ _ at-number-of.number_of.ensures (begins _ _ word.result.bytes word.ensures.0 word.ensures.1))
     (sym at-if1.before.present.ensures ∙ at-if1.if1.false) at_bare.bare.ensures
 
 pub word-alone-spec : {M : Type 1} → statement M

@@ -15,7 +15,7 @@ returns c d r h =
     let at-word = at-said.before.before.before.before.before in
     at-word.word.ensures _ _ r
     ▹ a_said _ refl at-said.said.ensures
-    ▹ at-if-exists.if_exists_lem.ensures _ _ r _ h
+    ▹ at-if-exists.if_exists.ensures _ _ r _ h
     ▹ at-run.run.ensures _ r
 
 pub drop-sequence-spec : {M : Type 1} → statement M

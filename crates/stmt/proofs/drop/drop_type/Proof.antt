@@ -14,7 +14,7 @@ returns c d r h =
     let at-word = at-word2.before.before.before.before in
     at-word.word.ensures _ _ r
     ▹ at-word2.word2.ensures _ _ r
-    ▹ at-if-exists.if_exists_lem.ensures _ _ r _ h
+    ▹ at-if-exists.if_exists.ensures _ _ r _ h
     ▹ at_name.name.ensures _ r
 
 pub drop-type-spec : {M : Type 1} → statement M

@@ -1,0 +1,7 @@
+-- `pen::pass` meets its contract: the sink stays, and the index goes behind the record.
+use borrow.Author.Rules.{rules}
+use mathlib.Core.Path.{refl}
+use Rattle.pen.proofs.pass.Goals as goal
+
+pub returns : goal.returns
+returns c = record { sink = refl; next = c.behind-next.ensures }

@@ -1,0 +1,6 @@
+-- `pen::said` appends TK_ID with the text.
+use borrow.Author.Rules.{rules}
+use Rattle.pen.proofs.said.Goals as goal
+
+pub returns : goal.returns
+returns c = c.append.ensures
