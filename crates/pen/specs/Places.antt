@@ -176,9 +176,11 @@ module _ {t x w : List ℕ} {g : Scope} {d : ℕ} {r k : Record} {a b : Spot} (r
       by : (m : Bool) → among k.kind ks ≡ m → Writes (lent t x g) w d r (slot (node ks)) a b
       by false e = other e
       by true e =
-          let l = high_among k.kind ks e high in
-          let none : (u : Edition) → Puts w (of (source_of u (lent t x g)) a.0.next []) a b = λ u. rw (← read, high_run k.kind l) at (h.puts u) in
-          record { puts = λ u. rw (← read, e, ne_eqb k.kind RUN (λ q. omega (arith, ltb-false k.kind 10 l)), not_deep (source_of u (lent t x g)) d k.kind a.0.next z l) (none u) }
+          let here = (record_at t a.0.next).kind in
+          let e' : among here ks ≡ true = subst (λ (x : Record). among x.kind ks ≡ true) read e in
+          let l = high_among here ks e' high in
+          let none : (u : Edition) → Puts w (of (source_of u (lent t x g)) a.0.next []) a b = λ u. rw (high_run here l) at (h.puts u) in
+          record { puts = λ u. rw (e', ne_eqb here RUN (λ q. omega (arith, ltb-false here 10 l)), not_deep (source_of u (lent t x g)) d here a.0.next z l) (none u) }
 
 -- ---- a place of one kind: it is entered, or not
 module _ {t x w o : List ℕ} {g : Scope} {d n : ℕ} {r k : Record} {p : Pen} (high : leaf n ≡ false) (read : k ≡ record_at t p.next) where
