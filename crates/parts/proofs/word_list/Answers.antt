@@ -1,0 +1,19 @@
+-- `parts::word_list` passes over an empty LIST.
+use borrow.Author.Rules.{rules}
+use Rattle.pen.specs.Laws.{◌▹◌}
+use Rattle.pen.specs.Places.{filled_none, filled_some}
+use Rattle.parts.proofs.word_list.Goals as goal
+
+pub returns-then-r-eq0 : goal.returns-then-r-eq0
+returns-then-r-eq0 c d r =
+    let at-if1 = c in
+    let at_read = at-if1 in
+    filled_none at_read.read-r.ensures at-if1.if-r-eq0.true c.pass.ensures
+
+pub returns : goal.returns
+returns c d r =
+    let at-comma = c in
+    let at-word = at-comma in
+    let at-if1 = at-word in
+    let at_read = at-if1 in
+    filled_some at_read.read-r.ensures at-if1.if-r-eq0.false (at-word.word-q.ensures _ d r ▹ at-comma.comma.ensures d r)
