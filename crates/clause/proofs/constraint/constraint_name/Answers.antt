@@ -1,0 +1,19 @@
+-- `constraint::constraint_name` passes over NONE.
+use borrow.Author.Rules.{rules}
+use Rattle.pen.specs.Laws.{◌▹◌}
+use Rattle.pen.specs.Places.{optional, given_none, given_some}
+use Rattle.clause.proofs.constraint.constraint_name.Goals as goal
+
+pub returns-then-r-eq-NONE : goal.returns-then-r-eq-NONE
+returns-then-r-eq-NONE c d r =
+    let at-if1 = c in
+    let at_read = at-if1 in
+    given_none at_read.read-r.ensures at-if1.if-r-eq-NONE.true c.pass.ensures
+
+pub returns : goal.returns
+returns c d r =
+    let at_name = c in
+    let at-word = at_name in
+    let at-if1 = at-word in
+    let at_read = at-if1 in
+    given_some at_read.read-r.ensures at-if1.if-r-eq-NONE.false (at-word.word-q.ensures _ d r ▹ optional (at_name.name.ensures d r))

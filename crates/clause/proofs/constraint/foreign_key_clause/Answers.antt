@@ -1,0 +1,27 @@
+-- `constraint::foreign_key_clause` writes its entry, a step a call.
+use borrow.Author.Rules.{rules}
+use mathlib.Core.Path.{refl}
+use Rattle.pen.specs.Laws.{◌▹◌}
+use Rattle.pen.specs.Places.{shut, opened}
+use Rattle.grammar.specs.Grammar.{shape}
+use Rattle.clause.proofs.constraint.foreign_key_clause.Goals as goal
+
+pub returns-then-left-r : goal.returns-then-left-r
+returns-then-left-r c r =
+    let at-run = c in
+    let at-if1 = at-run in
+    let at_read = at-if1 in
+    shut refl at_read.read-r.ensures at-if1.if-left-r.true (at-run.run.ensures _ r)
+
+pub returns : goal.returns
+unfolding shape
+returns c r =
+    let at_each = c in
+    let at-columns = at_each in
+    let at-run2 = at-columns in
+    let at-pass = at-run2 in
+    let at-if1 = at-pass in
+    let at_read = at-if1 in
+    opened refl at_read.read-r.ensures at-if1.if-left-r.false at-pass.pass-q.ensures (at-run2.run-q.ensures _ _
+    ▹ at-columns.columns-q.ensures _ _
+    ▹ at_each.each.ensures _ _)

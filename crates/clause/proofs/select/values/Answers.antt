@@ -1,0 +1,22 @@
+-- `select::values` passes over an empty LIST.
+use borrow.Author.Rules.{rules}
+use Rattle.pen.specs.Laws.{◌▹◌}
+use Rattle.pen.specs.Places.{filled_none, filled_some}
+use Rattle.grammar.specs.Grammar.{shape}
+use Rattle.clause.proofs.select.values.Goals as goal
+
+pub returns-then-r-eq0 : goal.returns-then-r-eq0
+unfolding shape
+returns-then-r-eq0 c d r =
+    let at-if1 = c in
+    let at_read = at-if1 in
+    filled_none at_read.read-r.ensures at-if1.if-r-eq0.true c.pass.ensures
+
+pub returns : goal.returns
+unfolding shape
+returns c d r =
+    let at-tuples = c in
+    let at-word = at-tuples in
+    let at-if1 = at-word in
+    let at_read = at-if1 in
+    filled_some at_read.read-r.ensures at-if1.if-r-eq0.false (at-word.word-q.ensures _ d r ▹ at-tuples.tuples.ensures d r)

@@ -1,0 +1,29 @@
+-- `reader::word_end` meets its contract. The loop's invariant: where the bytes end is the same from the start and from `i` on.
+use Prim.Native.Nat.{◌≤◌, ◌-◌}
+use mathlib.Core.Path.{◌≡◌, refl, sym, ◌∙◌}
+use lib.ListN.{length, drop}
+use borrow.Author.Rules.{rules}
+use borrow.Author.Tests.{not-true, not-false}
+use Rattle.reading.specs.Bytes.{word_byte}
+use Rattle.reading.specs.Number.{takes}
+use Rattle.reader.specs.Places.{past}
+use Rattle.reader.specs.Laws.{takes_on, takes_off, takes_end}
+use Rattle.reader.proofs.word_end.Goals as goal
+
+pub loop-i-init : goal.loop-i-init
+loop-i-init c = (c.requires, refl)
+
+pub returns-then-not-word_byte : goal.returns-then-not-word_byte
+returns-then-not-word_byte c =
+    let loop = c.loop-i in
+    let off = sym c.word_byte.ensures ∙ not-true _ c.if-not-word_byte.true-raw in
+    sym (loop.invariant.1 ∙ takes_off word_byte _ loop.i c.loop-i-test.true off)
+
+pub loop-i-preserved : goal.loop-i-preserved
+loop-i-preserved c =
+    let loop = c.loop-i in
+    let on = sym c.word_byte.ensures ∙ not-false _ c.if-not-word_byte.false-raw in
+    (search rules, loop.invariant.1 ∙ takes_on word_byte _ loop.i c.loop-i-test.true on)
+
+pub returns : goal.returns
+returns c = let loop = c.loop-i in sym (loop.invariant.1 ∙ takes_end word_byte _ loop.i c.loop-i-test.false)
