@@ -5,8 +5,7 @@ ghost use Rattle.render.specs.Jobs.{RendersJobs};
 use render::jobs::Job;
 
 // The texts of all jobs written to the output, one behind the other, in the mode that the options stand for (02, i).
-#[unsafe(no_mangle)]
-pub extern "C" fn kinyandoma_render_jobs(
+pub fn kinyandoma_render_jobs(
     options: u32,
     jobs: &mut [Job],
     trees: &[u8],

@@ -2,8 +2,7 @@
 ghost use Rattle.kinyandoma.specs.Lexemes.{Lexed};
 
 // Reads one lexeme, and answers its kind: 0 at the end, and 8 where nothing can be read.
-#[unsafe(no_mangle)]
-pub extern "C" fn kinyandoma_lexeme(text: &[u8], start: &mut usize, rest: &mut usize) -> u32
+pub fn kinyandoma_lexeme(text: &[u8], start: &mut usize, rest: &mut usize) -> u32
     ensures { Lexed text.now result start.new rest.new }
 {
     let mut kind = reader::END;

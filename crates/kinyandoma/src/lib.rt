@@ -1,4 +1,4 @@
-// The calls for the engine, as extern "C" (01, section 9): numbers and byte slices, answers as number * 2^32 + place.
+// The calls for the engine (01, section 9), which kinyandoma_c exports: numbers and byte slices, answers as number * 2^32 + place.
 #![tactic(auto)]
 
 ghost use Rattle.wire.specs.Wire.{Crosses};
@@ -16,8 +16,7 @@ pub mod profiles;
 pub mod lexemes;
 
 // Appends one token: 01's append, with the record as 25 bytes. Answers number * 2^32 + place.
-#[unsafe(no_mangle)]
-pub extern "C" fn kinyandoma_append(rec: &mut [u8], out: &mut [u8], token: u16, value: &[u8]) -> u64
+pub fn kinyandoma_append(rec: &mut [u8], out: &mut [u8], token: u16, value: &[u8]) -> u64
     ensures { Crosses rec.old out.old token value.now result rec.new out.new }
 {
     wire::append(rec, out, token, value)

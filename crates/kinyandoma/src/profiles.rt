@@ -16,8 +16,7 @@ fn code(v: Verdict) -> u64
 }
 
 // How long the text of a tree is that keeps to the field profile, in the mode that the options stand for (02).
-#[unsafe(no_mangle)]
-pub extern "C" fn kinyandoma_profile(options: u32, tree: &[u8], text: &[u8]) -> u64
+pub fn kinyandoma_profile(options: u32, tree: &[u8], text: &[u8]) -> u64
     ensures { ProfilesIn (mode_of options) tree.now text.now result }
 {
     code(field::profile(mode::of(options), tree, text))

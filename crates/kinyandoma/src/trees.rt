@@ -17,16 +17,14 @@ fn code(o: Outcome) -> u64
 }
 
 // How long the text of a tree is, in the mode that the options stand for (02).
-#[unsafe(no_mangle)]
-pub extern "C" fn kinyandoma_measure_with(options: u32, tree: &[u8], text: &[u8]) -> u64
+pub fn kinyandoma_measure_with(options: u32, tree: &[u8], text: &[u8]) -> u64
     ensures { MeasuresIn (mode_of options) tree.now text.now result }
 {
     code(render::measure(mode::of(options), tree, text))
 }
 
 // The text of a tree written to the output, in the mode that the options stand for (02).
-#[unsafe(no_mangle)]
-pub extern "C" fn kinyandoma_render_with(
+pub fn kinyandoma_render_with(
     options: u32,
     tree: &[u8],
     text: &[u8],
@@ -38,16 +36,14 @@ pub extern "C" fn kinyandoma_render_with(
 }
 
 // 01's measure.
-#[unsafe(no_mangle)]
-pub extern "C" fn kinyandoma_measure(tree: &[u8], text: &[u8]) -> u64
+pub fn kinyandoma_measure(tree: &[u8], text: &[u8]) -> u64
     ensures { Measures tree.now text.now result }
 {
     kinyandoma_measure_with(NO_OPTIONS, tree, text)
 }
 
 // 01's render.
-#[unsafe(no_mangle)]
-pub extern "C" fn kinyandoma_render(tree: &[u8], text: &[u8], out: &mut [u8]) -> u64
+pub fn kinyandoma_render(tree: &[u8], text: &[u8], out: &mut [u8]) -> u64
     ensures { Renders tree.now text.now out.old result out.new }
 {
     kinyandoma_render_with(NO_OPTIONS, tree, text, out)
