@@ -24,4 +24,4 @@ returns c d r h =
     ▹ at-on-conflict.on_conflict.ensures d r
 
 pub shape_of-out : goal.shape_of-out
-shape_of-out c = same (returns c 0 (bits c.args.auto-increment false false) (first_bit _ false false))
+shape_of-out c = same (returns c 0 (bits c.args.auto_increment false false) (first_bit _ false false))
