@@ -1,3 +1,2 @@
 // The reading rule and demand 3, as definitions and theorems: they stand in specs/, and there is no code.
 #![tactic(auto)]
-

@@ -14,7 +14,7 @@ use Rattle.parts.specs.Runs.{tuple}
 use Rattle.parts.proofs.bracketed.Given as goal
 
 abbrev pub invariant-loop-rest : goal.invariant-loop-rest
-invariant-loop-rest l =     (d : ℕ) (v : Edition)
+invariant-loop-rest l = (d : ℕ) (v : Edition)
     → put l.pool (rows (tuple (source_of v (source l.tree l.text)) d) (opt l.lead comma) comma l.rest l.q.next) (l.q, l.out)
     ≡ put l.pool (rows (tuple (source_of v (source l.tree l.text)) d) [] comma l.n l.initial.q.next) (l.initial.q, l.initial.out)
 

@@ -14,7 +14,7 @@ use Rattle.parts.specs.Runs.{ended}
 use Rattle.parts.proofs.ended.Given as goal
 
 abbrev pub invariant-loop-rest : goal.invariant-loop-rest
-invariant-loop-rest l =     (d : ℕ) (v : Edition)
+invariant-loop-rest l = (d : ℕ) (v : Edition)
     → put l.pool (rows (ended (source_of v (source l.tree l.text)) d) [] [] l.rest l.q.next) (l.q, l.out) ≡ put l.pool (rows (ended (source_of v (source l.tree l.text)) d) [] [] l.n l.initial.q.next) (l.initial.q, l.initial.out)
 
 abbrev pub decreases-loop-rest : goal.decreases-loop-rest

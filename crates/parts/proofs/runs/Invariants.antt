@@ -14,7 +14,7 @@ use Rattle.pen.specs.Rows.{opt, row_first, row_done}
 use Rattle.parts.proofs.runs.Given as goal
 
 abbrev pub invariant-loop-rest : goal.invariant-loop-rest
-invariant-loop-rest l =     (d : ℕ) (v : Edition)
+invariant-loop-rest l = (d : ℕ) (v : Edition)
     → put l.pool (rows (placed (source_of v (source l.tree l.text)) (node (source_of v (source l.tree l.text)) d) run) (opt l.lead comma) (opt l.commas comma) l.rest l.q.next) (l.q, l.out)
     ≡ put l.pool (rows (placed (source_of v (source l.tree l.text)) (node (source_of v (source l.tree l.text)) d) run) [] (opt l.commas comma) l.n l.initial.q.next) (l.initial.q, l.initial.out)
 

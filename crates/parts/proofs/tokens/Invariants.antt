@@ -12,7 +12,7 @@ use Rattle.pen.specs.Rows.{nothing, row_first, row_done}
 use Rattle.parts.proofs.tokens.Given as goal
 
 abbrev pub invariant-loop-rest : goal.invariant-loop-rest
-invariant-loop-rest l =     (v : Edition) → put l.pool (rows (token_at (source_of v (source l.tree l.text))) [] [] l.rest l.q.next) (l.q, l.out) ≡ put l.pool (rows (token_at (source_of v (source l.tree l.text))) [] [] l.n l.initial.q.next) (l.initial.q, l.initial.out)
+invariant-loop-rest l = (v : Edition) → put l.pool (rows (token_at (source_of v (source l.tree l.text))) [] [] l.rest l.q.next) (l.q, l.out) ≡ put l.pool (rows (token_at (source_of v (source l.tree l.text))) [] [] l.n l.initial.q.next) (l.initial.q, l.initial.out)
 
 abbrev pub decreases-loop-rest : goal.decreases-loop-rest
 decreases-loop-rest l = l.rest

@@ -68,11 +68,11 @@ loop-rest-preserved t c =
       held.1,
       row_filled c.args.tree.now c.args.text.now _ _ _ _ _ c.loop-rest.invariant.1 _ _ (along_split _ _ c.loop-rest-test.true) _ _ m z c.requires.0 c.requires.1.1.1.0 c.read-r.ensures _
           (elim c.if-r-ne0.branch [
-            then-r-ne0+then-r-eq-RUN w ↦ rw (w.next-is, run_holds _ c.read-r.result w.if-r-eq-RUN.true) w.check_tokens-next.ensures
-          | then-r-ne0+else-r-eq-RUN w ↦
-              rw (w.next-is, row_holds _ c.read-r.result held.0 fit w.if-r-eq-RUN.false) (rw (w.row-below.ensures, c.first-place.ensures) at w.check_row-next.ensures)
-          | else-r-ne0 w ↦
-              rw (w.next-is, childless _ c.read-r.result fit w.if-r-ne0.false) (nothing_walked _ _ _ c.requires.0 (omega (arith, there _ _ _ _ _ _ _ m z)))
+            | then-r-ne0+then-r-eq-RUN w ↦ rw (w.next-is, run_holds _ c.read-r.result w.if-r-eq-RUN.true) w.check_tokens-next.ensures
+            | then-r-ne0+else-r-eq-RUN w ↦
+                rw (w.next-is, row_holds _ c.read-r.result held.0 fit w.if-r-eq-RUN.false) (rw (w.row-below.ensures, c.first-place.ensures) at w.check_row-next.ensures)
+            | else-r-ne0 w ↦
+                rw (w.next-is, childless _ c.read-r.result fit w.if-r-ne0.false) (nothing_walked _ _ _ c.requires.0 (omega (arith, there _ _ _ _ _ _ _ m z)))
           ]),
     )
 

@@ -15,7 +15,7 @@ decreases-check_row l = l.left
 
 -- what is left of the row are all places
 abbrev pub invariant-loop-rest : goal.invariant-loop-rest
-invariant-loop-rest l =     (all_held l.places l.rest ≡ true)
+invariant-loop-rest l = (all_held l.places l.rest ≡ true)
     × Along l.tree l.text l.index (map (place (65 - l.left)) (along l.row l.n)) l.next (map (place (65 - l.left)) (along l.places l.rest))
 
 abbrev pub decreases-loop-rest : goal.decreases-loop-rest

@@ -13,7 +13,7 @@ use borrow.Author.Rules.{rules}
 use Rattle.tree.proofs.check_tokens.Given as goal
 
 abbrev pub invariant-loop-rest : goal.invariant-loop-rest
-invariant-loop-rest l =     (l.next ≤ count l.tree)
+invariant-loop-rest l = (l.next ≤ count l.tree)
     × Along l.tree l.text l.index (map (place (65 - l.left)) (replicate l.n (class_at token_at))) l.next (map (place (65 - l.left)) (replicate l.rest (class_at token_at)))
 
 abbrev pub decreases-loop-rest : goal.decreases-loop-rest

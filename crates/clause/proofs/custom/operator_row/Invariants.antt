@@ -14,7 +14,7 @@ use Rattle.pen.specs.Rows.{nothing, row_first, row_done}
 use Rattle.clause.proofs.custom.operator_row.Given as goal
 
 abbrev pub invariant-loop-rest : goal.invariant-loop-rest
-invariant-loop-rest l =     (v : Edition) → put l.pool (rows (placed (source_of v (source_in l.tree l.text l.edition)) (node (source_of v (source_in l.tree l.text l.edition)) l.left) (grammar.node (OperatorClause ∷ []))) [] [] l.rest l.q.next) (l.q, l.out)
+invariant-loop-rest l = (v : Edition) → put l.pool (rows (placed (source_of v (source_in l.tree l.text l.edition)) (node (source_of v (source_in l.tree l.text l.edition)) l.left) (grammar.node (OperatorClause ∷ []))) [] [] l.rest l.q.next) (l.q, l.out)
     ≡ put l.pool (rows (placed (source_of v (source_in l.tree l.text l.edition)) (node (source_of v (source_in l.tree l.text l.edition)) l.left) (grammar.node (OperatorClause ∷ []))) [] [] l.n l.initial.q.next) (l.initial.q, l.initial.out)
 
 abbrev pub decreases-loop-rest : goal.decreases-loop-rest
