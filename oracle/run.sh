@@ -121,7 +121,7 @@ tell_size() {
 }
 
 bench() {
-    rt staticlib kinyandoma
+    tools/archive
     KINYANDOMA_LIB=$library build_as timed --package bench
     tell_size
     "$oracle/target/timed/bench"
@@ -168,7 +168,7 @@ build --package compare --features compare/selftest
 "$programs/compare" faults
 
 echo "the library against the crate:"
-rt staticlib kinyandoma
+tools/archive
 "$oracle/no_division.sh" --planted
 "$oracle/no_division.sh" "$library/libkinyandoma.a"
 KINYANDOMA_LIB=$library build --package compare
@@ -200,7 +200,7 @@ echo "every short text and random ones, cut lexeme by lexeme, against the readin
 "$programs/compare" lexemes "$LEXEMES" "$SEED"
 
 echo "what the program cut prints, against the reading rule:"
-rt check cut
+tools/program cut
 "$programs/compare" cut "$CUTS" "$SEED" target/bin/cut
 
 if command -v sqlite3 > /dev/null; then
@@ -217,7 +217,7 @@ echo "the library's texts cut back by the reading rule, and by the crate's lexer
 "$programs/compare" reading "$STREAMS" "$SEED"
 
 echo "the check of trees against the model:"
-rt check replay_trees
+tools/program replay_trees
 "$programs/model" stream "$TREE_CASES" "$SEED" | target/bin/replay_trees | "$programs/model" judge "$TREE_CASES" "$SEED"
 
 echo "the entries of the grammar against the crate:"

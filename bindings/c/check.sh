@@ -8,7 +8,7 @@ library=${KINYANDOMA_LIB:-target/staticlib}/libkinyandoma.a
 strict=(-Wall -Wextra -Werror -pedantic)
 
 if [ ! -f "$library" ]; then
-    echo "no $library: run \`rt staticlib kinyandoma\`, or set KINYANDOMA_LIB to the folder that holds it" >&2
+    echo "no $library: run \`tools/archive\`, or set KINYANDOMA_LIB to the folder that holds it" >&2
     exit 1
 fi
 made=$(mktemp -d)

@@ -32,7 +32,7 @@ fn library_folder() -> PathBuf {
     let folder = repository_root().join(&named);
     if !folder.join(ARCHIVE).is_file() {
         eprintln!("no {ARCHIVE} in {}", folder.display());
-        eprintln!("run `rt staticlib kinyandoma` in the repository, or set KINYANDOMA_LIB to the folder that holds it");
+        eprintln!("run `tools/archive` in the repository, or set KINYANDOMA_LIB to the folder that holds it");
         process::exit(1);
     }
     folder
