@@ -1,3 +1,4 @@
+pub mod Powers
 pub mod Columns
 pub mod Signed
 pub mod Turns

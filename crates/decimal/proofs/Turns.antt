@@ -11,7 +11,8 @@ use lib.ListN.{length, set}
 use lib.Seq.{sets}
 use borrow.Author.Tests.{ltb-true, ltb-false}
 use Rattle.decimal.specs.Decimal.{digit, natural}
-use Rattle.decimal.specs.Powers.{most, power, power_is}
+use Rattle.decimal.specs.Powers.{most, power}
+use Rattle.decimal.proofs.Powers.{power_is}
 use Rattle.decimal.specs.Laws.{length_below, below_length}
 use Rattle.decimal.proofs.Columns.{columns, natural_columns, one_column, first_column}
 
