@@ -32,7 +32,7 @@ const MATERIALIZED: u16 = 1;
 const NOT_MATERIALIZED: u16 = 2;
 
 // Select (80).
-#[cycle(body_compound_cte_cte_body_element_elements_from_clause_from_given_joined_list_one_one_select_select_sub_table_table_select_with_clause)]
+#[cycle(select)]
 pub fn select(p: Pen, out: &mut [u8], pool: &[u8], tree: &[u8], text: &[u8], left: usize) -> Pen
     ensures { Below (source tree.now text.now) pool.now left (slot select') (p, out.old) (result, out.new) }
 {
@@ -48,7 +48,7 @@ pub fn select(p: Pen, out: &mut [u8], pool: &[u8], tree: &[u8], text: &[u8], lef
 }
 
 // SelectBody (81).
-#[cycle(body_compound_cte_cte_body_element_elements_from_clause_from_given_joined_list_one_one_select_select_sub_table_table_select_with_clause)]
+#[cycle(select)]
 pub fn body(p: Pen, out: &mut [u8], pool: &[u8], tree: &[u8], text: &[u8], left: usize) -> Pen
     ensures { Below (source tree.now text.now) pool.now left (slot (node (SelectBody ∷ []))) (p, out.old) (result, out.new) }
 {
@@ -62,7 +62,7 @@ pub fn body(p: Pen, out: &mut [u8], pool: &[u8], tree: &[u8], text: &[u8], left:
 }
 
 // CompoundSelect (82).
-#[cycle(body_compound_cte_cte_body_element_elements_from_clause_from_given_joined_list_one_one_select_select_sub_table_table_select_with_clause)]
+#[cycle(select)]
 pub fn compound(p: Pen, out: &mut [u8], pool: &[u8], tree: &[u8], text: &[u8], left: usize) -> Pen
     ensures { Below (source tree.now text.now) pool.now left (slot (node (CompoundSelect ∷ []))) (p, out.old) (result, out.new) }
 {
@@ -76,7 +76,7 @@ pub fn compound(p: Pen, out: &mut [u8], pool: &[u8], tree: &[u8], text: &[u8], l
 }
 
 // OneSelect (83 and 84).
-#[cycle(body_compound_cte_cte_body_element_elements_from_clause_from_given_joined_list_one_one_select_select_sub_table_table_select_with_clause)]
+#[cycle(select)]
 pub fn one_select(p: Pen, out: &mut [u8], pool: &[u8], tree: &[u8], text: &[u8], left: usize) -> Pen
     ensures { Below (source tree.now text.now) pool.now left (slot one_select') (p, out.old) (result, out.new) }
 {
@@ -95,7 +95,7 @@ pub fn one_select(p: Pen, out: &mut [u8], pool: &[u8], tree: &[u8], text: &[u8],
 }
 
 // OneSelect::Select (83).
-#[cycle(body_compound_cte_cte_body_element_elements_from_clause_from_given_joined_list_one_one_select_select_sub_table_table_select_with_clause)]
+#[cycle(select)]
 fn one(p: Pen, out: &mut [u8], pool: &[u8], tree: &[u8], text: &[u8], left: usize) -> Pen
     ensures { Below (source tree.now text.now) pool.now left (shape OneSelect) (p, out.old) (result, out.new) }
 {
@@ -128,7 +128,7 @@ fn values(p: Pen, out: &mut [u8], pool: &[u8], tree: &[u8], text: &[u8]) -> Pen
 }
 
 // FROM and a from clause, unless that is NONE.
-#[cycle(body_compound_cte_cte_body_element_elements_from_clause_from_given_joined_list_one_one_select_select_sub_table_table_select_with_clause)]
+#[cycle(select)]
 pub fn from_given(p: Pen, out: &mut [u8], pool: &[u8], tree: &[u8], text: &[u8], left: usize) -> Pen
     ensures { Below (source tree.now text.now) pool.now left (clause' TK_FROM' from_clause') (p, out.old) (result, out.new) }
 {
@@ -141,7 +141,7 @@ pub fn from_given(p: Pen, out: &mut [u8], pool: &[u8], tree: &[u8], text: &[u8],
 }
 
 // FromClause (85).
-#[cycle(body_compound_cte_cte_body_element_elements_from_clause_from_given_joined_list_one_one_select_select_sub_table_table_select_with_clause)]
+#[cycle(select)]
 pub fn from_clause(
     p: Pen,
     out: &mut [u8],
@@ -162,7 +162,7 @@ pub fn from_clause(
 }
 
 // A joined table (86).
-#[cycle(body_compound_cte_cte_body_element_elements_from_clause_from_given_joined_list_one_one_select_select_sub_table_table_select_with_clause)]
+#[cycle(select)]
 pub fn joined(p: Pen, out: &mut [u8], pool: &[u8], tree: &[u8], text: &[u8], left: usize) -> Pen
     ensures { Below (source tree.now text.now) pool.now left (slot (node (JoinedTable ∷ []))) (p, out.old) (result, out.new) }
 {
@@ -177,7 +177,7 @@ pub fn joined(p: Pen, out: &mut [u8], pool: &[u8], tree: &[u8], text: &[u8], lef
 }
 
 // SelectTable (87 to 90).
-#[cycle(body_compound_cte_cte_body_element_elements_from_clause_from_given_joined_list_one_one_select_select_sub_table_table_select_with_clause)]
+#[cycle(select)]
 pub fn table(p: Pen, out: &mut [u8], pool: &[u8], tree: &[u8], text: &[u8], left: usize) -> Pen
     ensures { Below (source tree.now text.now) pool.now left (slot select_table) (p, out.old) (result, out.new) }
 {
@@ -220,7 +220,7 @@ fn table_call(p: Pen, out: &mut [u8], pool: &[u8], tree: &[u8], text: &[u8]) -> 
 }
 
 // SelectTable::Select (89).
-#[cycle(body_compound_cte_cte_body_element_elements_from_clause_from_given_joined_list_one_one_select_select_sub_table_table_select_with_clause)]
+#[cycle(select)]
 fn table_select(p: Pen, out: &mut [u8], pool: &[u8], tree: &[u8], text: &[u8], left: usize) -> Pen
     ensures { Below (source tree.now text.now) pool.now left (shape TableSelect) (p, out.old) (result, out.new) }
 {
@@ -231,7 +231,7 @@ fn table_select(p: Pen, out: &mut [u8], pool: &[u8], tree: &[u8], text: &[u8], l
 }
 
 // SelectTable::Sub (90).
-#[cycle(body_compound_cte_cte_body_element_elements_from_clause_from_given_joined_list_one_one_select_select_sub_table_table_select_with_clause)]
+#[cycle(select)]
 fn sub(p: Pen, out: &mut [u8], pool: &[u8], tree: &[u8], text: &[u8], left: usize) -> Pen
     ensures { Below (source tree.now text.now) pool.now left (shape Sub) (p, out.old) (result, out.new) }
 {
@@ -242,7 +242,7 @@ fn sub(p: Pen, out: &mut [u8], pool: &[u8], tree: &[u8], text: &[u8], left: usiz
 }
 
 // With (110).
-#[cycle(body_compound_cte_cte_body_element_elements_from_clause_from_given_joined_list_one_one_select_select_sub_table_table_select_with_clause)]
+#[cycle(select)]
 pub fn with_clause(
     p: Pen,
     out: &mut [u8],
@@ -263,7 +263,7 @@ pub fn with_clause(
 }
 
 // CommonTableExpr (106).
-#[cycle(body_compound_cte_cte_body_element_elements_from_clause_from_given_joined_list_one_one_select_select_sub_table_table_select_with_clause)]
+#[cycle(select)]
 pub fn cte(p: Pen, out: &mut [u8], pool: &[u8], tree: &[u8], text: &[u8], left: usize) -> Pen
     ensures { Below (source tree.now text.now) pool.now left (slot (node (CommonTableExpr ∷ []))) (p, out.old) (result, out.new) }
 {
@@ -300,7 +300,7 @@ fn not_materialized(p: Pen, out: &mut [u8], pool: &[u8], flags: u16) -> Pen
 }
 
 // What stands behind the AS of a CommonTableExpr.
-#[cycle(body_compound_cte_cte_body_element_elements_from_clause_from_given_joined_list_one_one_select_select_sub_table_table_select_with_clause)]
+#[cycle(select)]
 fn cte_body(
     p: Pen,
     out: &mut [u8],
@@ -320,7 +320,7 @@ fn cte_body(
 }
 
 // The next record, a clause of this kind, if such clauses stand in lists.
-#[cycle(body_compound_cte_cte_body_element_elements_from_clause_from_given_joined_list_one_one_select_select_sub_table_table_select_with_clause)]
+#[cycle(select)]
 fn element(
     p: Pen,
     out: &mut [u8],
@@ -363,7 +363,7 @@ fn element(
 }
 
 // So many clauses of this kind, one behind the other, with commas between them or not.
-#[cycle(body_compound_cte_cte_body_element_elements_from_clause_from_given_joined_list_one_one_select_select_sub_table_table_select_with_clause)]
+#[cycle(select)]
 fn elements(
     p: Pen,
     out: &mut [u8],
@@ -390,7 +390,7 @@ fn elements(
 }
 
 // The next record, a LIST of clauses of this kind, with commas between them or not.
-#[cycle(body_compound_cte_cte_body_element_elements_from_clause_from_given_joined_list_one_one_select_select_sub_table_table_select_with_clause)]
+#[cycle(select)]
 pub fn list(
     p: Pen,
     out: &mut [u8],
