@@ -24,7 +24,7 @@ use Rattle.render.specs.declared.Outcome.TheVariants.{Done, Refused, NoRoom}
 use Rattle.kinyandoma.specs.Trees as Call
 use Rattle.reading.specs.Reading.{Lexed, Cuts}
 use Rattle.reading.specs.Readable.{Readable}
-use Rattle.reading.specs.Demand3.{spellings, gives_back, never_shared, tree_gives_back}
+use Rattle.reading.proofs.Demand3.{spellings, gives_back, never_shared, tree_gives_back}
 use Rattle.demands.specs.Lends.{lent, case_lent}
 
 -- a record from which nothing was written yet

@@ -19,7 +19,7 @@ use Rattle.render.specs.Jobs.{outside, tree_of, written, Called, Single, InOrder
 use Rattle.render.specs.JobsLaws.{single_room, jobs_same}
 use Rattle.reading.specs.Reading.{Lexed, Cuts}
 use Rattle.reading.specs.Readable.{Readable}
-use Rattle.reading.specs.Demand3.{tree_gives_back}
+use Rattle.reading.proofs.Demand3.{tree_gives_back}
 use Rattle.demands.specs.Demands.{outcome_is}
 use Rattle.demands.specs.Named.{rendered_alike}
 

@@ -9,7 +9,7 @@ use Rattle.reading.specs.Lexeme.{Kind, Word, Number, Quoted, Blob, Variable, Ope
 use Rattle.reading.specs.Reading.{operator_byte, Start, blank, mark, quote, digits, word, variable, operator, nothing, start, closing, opened, blobbed, Read, lexeme, finish, failure, answer, read, Lexed, Cuts, ended, failed, next}
 use Rattle.reading.specs.Readable.{Readable}
 use Rattle.reading.specs.Once.{cut_once}
-use Rattle.reading.specs.Demand3.{gives_back}
+use Rattle.reading.proofs.Demand3.{gives_back}
 use Rattle.stream.specs.Stream.{Token, text}
 use Rattle.reader.specs.Reader.{number as number_of_lem, end, stop, GivesOf, Gives}
 use Rattle.reader.specs.Splits.{splits, splits_after, takes_splits, closing_splits, blobbed_splits, number_splits}

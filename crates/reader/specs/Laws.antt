@@ -7,7 +7,7 @@ use Rattle.reading.specs.Number.{Taken, taken, unclosed, after, takes}
 use Rattle.laws.specs.Among.{among}
 use Rattle.reading.specs.Bytes.{blanks}
 use Rattle.reading.specs.Reading.{through, closing, opened, read}
-use Rattle.reading.specs.Taking.{closing_other, closing_last, closing_doubled}
+use Rattle.reading.proofs.Taking.{closing_other, closing_last, closing_doubled}
 use Rattle.reader.specs.Places.{past, bare}
 use Rattle.reader.specs.Sorts.{begins_blank}
 

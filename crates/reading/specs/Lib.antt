@@ -3,12 +3,6 @@ pub mod Number
 pub mod Lexeme
 pub mod Reading
 pub mod Readable
-pub mod Taking
-pub mod Numbers
-pub mod Reads
-pub mod Back
 pub mod Once
-pub mod Demand3
 pub mod Decided
 pub mod Examples
-pub mod Broken

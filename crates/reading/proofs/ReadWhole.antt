@@ -12,8 +12,8 @@ use Rattle.reading.specs.Number.{Numeral, taken, number}
 use Rattle.reading.specs.Lexeme.{Kind, Word, Number, Quoted, Blob, Variable, Operator, Mark, operators, listed, Quotation, Pairs, Lexeme, word as a_word, number as a_number, quoted, blob, numbered, named, operator as an_operator, mark as a_mark}
 use Rattle.reading.specs.Reading.{operator_byte, Start, blank, mark, quote, digits, word, variable, operator, nothing, start, opened, lexeme, read}
 use Rattle.reading.specs.Readable.{is_number}
-use Rattle.reading.specs.Taking.{stops, takes_all, closing_all, through_all}
-use Rattle.reading.specs.Numbers.{Counted, counted}
+use Rattle.reading.proofs.Taking.{stops, takes_all, closing_all, through_all}
+use Rattle.reading.proofs.Numbers.{Counted, counted}
 
 -- ways to begin, told apart by numbers
 abbrev rank : Start → ℕ

@@ -6,7 +6,7 @@ use Rattle.stream.specs.Stream.{Token, text}
 use Rattle.tokens.specs.Tokens.{Source, tokens_of, text_of}
 use Rattle.reading.specs.Reading.{Lexed, Cuts}
 use Rattle.reading.specs.Readable.{Readable}
-use Rattle.reading.specs.Back.{cuts_back}
+use Rattle.reading.proofs.Back.{cuts_back}
 use Rattle.reading.specs.Once.{cut_once}
 
 -- the spellings of lexemes, in order

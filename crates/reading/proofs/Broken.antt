@@ -16,7 +16,7 @@ use Rattle.reading.specs.Lexeme.{Word, Number, Quoted, Variable, Operator, Mark,
 use Rattle.reading.specs.Reading.{operator_byte, start, through, closing, read, Lexed, Cuts, ended, failed, next}
 use Rattle.reading.specs.Readable.{Carried, done, next as more, Readable}
 use Rattle.reading.specs.Once.{cut_once}
-use Rattle.reading.specs.Demand3.{gives_back}
+use Rattle.reading.proofs.Demand3.{gives_back}
 
 abbrev bare : ℕ → Token
 bare k = record { kind = k; value = none }

@@ -5,7 +5,7 @@ use Rattle.std.proofs.lemmas.Bool.{not-true}
 use Rattle.laws.specs.Among.{all}
 use Rattle.reading.specs.Bytes.{digit, dot}
 use Rattle.reading.specs.Number.{Digits, digits, Numeral, whole, fraction, taken, takes, pointed, number}
-use Rattle.reading.specs.Taking.{stops, takes_all}
+use Rattle.reading.proofs.Taking.{stops, takes_all}
 
 -- a number with r behind it: a digit stands first, and the number is what is taken
 pub record Counted (w r : List ℕ) : Type 0 where

@@ -17,7 +17,7 @@ use Rattle.reading.specs.Bytes.{digit, word_first, marks, dot, newline}
 use Rattle.reading.specs.Lexeme.{Kind, Word, Number, Quoted, Blob, Variable, Operator, Mark, operators, close, Lexeme, blob as a_blob, mark as a_mark}
 use Rattle.reading.specs.Reading.{Start, mark, nothing, blank as skipped, operator_byte, start, lexeme, read, Lexed, Cuts, ended, failed, next}
 use Rattle.reading.specs.Readable.{is_number, Carries, fixed, word_line, semi_line, valued, blob, no_blob, is_dot, beside, no_dot_beside_number, Carried, done, next as more}
-use Rattle.reading.specs.Reads.{alike, start_of, Begins, starts_mark, first_byte, closers, loose, ends, reads}
+use Rattle.reading.proofs.ReadWhole.{alike, start_of, Begins, starts_mark, first_byte, closers, loose, ends, reads}
 
 -- a lexeme has a first byte, so it is not empty, and that byte is no blank of the stream
 abbrev idle : Start → Bool
