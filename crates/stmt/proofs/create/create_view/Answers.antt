@@ -1,0 +1,23 @@
+-- `create::create_view` writes its entry, a step a call.
+use borrow.Author.Rules.{rules}
+use Rattle.pen.specs.Laws.{◌▹◌}
+use Rattle.grammar.specs.Grammar.{shape}
+use Rattle.stmt.specs.Laws.{same_two}
+use Rattle.stmt.proofs.create.create_view.Goals as goal
+
+pub returns : goal.returns
+unfolding shape
+returns c r h g =
+    let at-view-body = c in
+    let at-if-not-exists = at-view-body in
+    let at-word2 = at-if-not-exists in
+    let at-word-if = at-word2 in
+    let at-word = at-word-if in
+    at-word.word-q.ensures _ _ r
+    ▹ at-word-if.word_if-q.ensures _ _ r _ h
+    ▹ at-word2.word-q-2.ensures _ _ r
+    ▹ at-if-not-exists.if_not_exists-q.ensures _ _ r _ g
+    ▹ at-view-body.view_body.ensures r
+
+pub shape_of-out : goal.shape_of-out
+shape_of-out c = same_two (returns c)
