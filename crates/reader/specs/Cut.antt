@@ -8,7 +8,7 @@ use Rattle.reading.specs.Number.{Taken, taken, unclosed, after, takes, number}
 use Rattle.reading.specs.Lexeme.{Kind, Word, Number, Quoted, Blob, Variable, Operator, Mark}
 use Rattle.reading.specs.Reading.{operator_byte, Start, blank, mark, quote, digits, word, variable, operator, nothing, start, closing, opened, blobbed, Read, lexeme, finish, failure, answer, read, Lexed, Cuts, ended, failed, next}
 use Rattle.reading.specs.Readable.{Readable}
-use Rattle.reading.specs.Once.{cut_once}
+use Rattle.reading.proofs.Once.{cut_once}
 use Rattle.reading.proofs.Demand3.{gives_back}
 use Rattle.stream.specs.Stream.{Token, text}
 use Rattle.reader.specs.Reader.{number as number_of_lem, end, stop, GivesOf, Gives}

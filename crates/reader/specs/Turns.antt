@@ -3,7 +3,7 @@ use Rattle.std.specs.Prelude.{ℕ, ◌+◌, ◌*◌, ◌≤◌, ◌<◌, ◌≡�
 use Rattle.std.proofs.Common.{arith, ap}
 use Rattle.reading.specs.Lexeme.{Kind, Word, Number, Quoted, Blob, Variable, Operator, Mark}
 use Rattle.reading.specs.Reading.{Read, lexeme, finish, failure, read}
-use Rattle.reading.specs.Once.{under, read_shorter}
+use Rattle.reading.proofs.Once.{under, read_shorter}
 use Rattle.reader.specs.Reader.{number, end, stop, GivesOf, Gives}
 
 inside_of : (x : Read) (n k s : ℕ) (r : List ℕ) → GivesOf x n k s r → s + length r ≤ n

@@ -15,7 +15,7 @@ use Rattle.reading.specs.Number.{takes, pointed, number}
 use Rattle.reading.specs.Lexeme.{Word, Number, Quoted, Variable, Operator, Mark, operators}
 use Rattle.reading.specs.Reading.{operator_byte, start, through, closing, read, Lexed, Cuts, ended, failed, next}
 use Rattle.reading.specs.Readable.{Carried, done, next as more, Readable}
-use Rattle.reading.specs.Once.{cut_once}
+use Rattle.reading.proofs.Once.{cut_once}
 use Rattle.reading.proofs.Demand3.{gives_back}
 
 abbrev bare : ℕ → Token

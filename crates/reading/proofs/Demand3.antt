@@ -7,7 +7,7 @@ use Rattle.tokens.specs.Tokens.{Source, tokens_of, text_of}
 use Rattle.reading.specs.Reading.{Lexed, Cuts}
 use Rattle.reading.specs.Readable.{Readable}
 use Rattle.reading.proofs.Back.{cuts_back}
-use Rattle.reading.specs.Once.{cut_once}
+use Rattle.reading.proofs.Once.{cut_once}
 
 -- the spellings of lexemes, in order
 abbrev pub spellings : List Lexed → List (List ℕ)

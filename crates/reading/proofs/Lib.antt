@@ -4,3 +4,6 @@ pub mod ReadWhole
 pub mod Back
 pub mod Demand3
 pub mod Broken
+pub mod Decided
+pub mod Once
+pub mod Examples

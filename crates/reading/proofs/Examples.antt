@@ -10,7 +10,7 @@ use Rattle.stream.specs.Stream as stream
 use Rattle.stream.specs.Stream.{tight, opens, gap, gapped, spelled_bit, written, valued_bit, added, left, adds, leaves, text}
 use Rattle.reading.specs.Bytes.{digit, hex_digit, word_first, word_byte}
 use Rattle.reading.specs.Lexeme.{Kind, Word, Number, Quoted, Blob, Variable, Operator, Mark, operators}
-use Rattle.reading.specs.Decided.{Carrier, fixed_as, word_lined, semi_lined, value_as, blob_of, blob_of_none, token_of, readable}
+use Rattle.reading.proofs.Decided.{Carrier, fixed_as, word_lined, semi_lined, value_as, blob_of, blob_of_none, token_of, readable}
 
 -- carriers by short names: a fixed word, operator or mark; a value of TK_ID
 abbrev w : ℕ → Carrier
