@@ -1,6 +1,6 @@
 -- The definitions are right: what the bytes of a whole record say, records past the end, the bounds of a record's numbers, and a NUMBER's bytes.
-use Rattle.std.specs.Prelude.{ℕ, zero, suc, ◌+◌, ◌-◌, ◌*◌, ◌^◌, ◌≤◌, ◌<◌, ◌≡◌, refl, List, [], ◌∷◌, Bool, true, false, ltb, length, get_or, take, drop, pos, negsuc, ◌-ℤ◌}
-use Rattle.std.proofs.Common.{arith, add-zero, add-suc, ap, lit<, drop-cons, drop-drop, ltb-true, ltb-false, lt-ltb, le-ltb, le-leb}
+use Rattle.std.specs.Prelude.{ℕ, zero, suc, ◌+◌, ◌-◌, ◌*◌, ◌^◌, ◌≤◌, ◌<◌, ◌≡◌, refl, List, [], ◌∷◌, length, get_or, take, drop, pos, negsuc, ◌-ℤ◌}
+use Rattle.std.proofs.Common.{arith, add-zero, add-suc, ap, drop-cons, drop-drop, lt-ltb, le-ltb, le-leb}
 use Rattle.std.proofs.lemmas.Bool.{lt-leb}
 use Rattle.laws.specs.Little.{from_little}
 use Rattle.record.specs.Record.{part, field, record_of, count, bytes_at, record_at, signed, number_of}
@@ -36,15 +36,6 @@ pub past : (t : List ℕ) (i : ℕ) → count t ≤ i → record_at t i ≡ noth
 unfolding record_at bytes_at
 past t i h = rw (le-ltb i (count t) h)
 
--- what holds of a record built of bytes, and of zeros, holds of the record at any index
-module _ (P : Record → Type 0) (t : List ℕ) (i : ℕ) (some : P (record_of (sixteen t (i * 16)))) (none : P nothing) where
-  by : (b : Bool) → ltb i (count t) ≡ b → P (record_at t i)
-  by true e = rw (there t i (ltb-true i (count t) e)) some
-  by false e = rw (past t i (ltb-false i (count t) e)) none
-
-  either : P (record_at t i)
-  either = by (ltb i (count t)) refl
-
 -- the bounds, where the tree is of bytes
 pub record Bounded (r : Record) : Type 0 where
   pub mark : r.mark < 2 ^ 16
@@ -53,28 +44,6 @@ pub record Bounded (r : Record) : Type 0 where
   pub kids : r.kids < 2 ^ 16
   pub start : r.start < 2 ^ 32
   pub len : r.len < 2 ^ 32
-
-two_below : {a b : ℕ} → a < 256 → b < 256 → from_little (a ∷ b ∷ []) < 2 ^ 16
-two_below h k = omega arith
-
-four_below : {a b c d : ℕ} → a < 256 → b < 256 → c < 256 → d < 256 → from_little (a ∷ b ∷ c ∷ d ∷ []) < 2 ^ 32
-four_below h k l m = omega arith
-
-sixteen_bounded : (t : List ℕ) (at : ℕ) → ((k : ℕ) → get_or t k 0 < 256) → Bounded (record_of (sixteen t at))
-sixteen_bounded t at b = record {
-  mark = two_below (b at) (b (at + 1));
-  kind = two_below (b (at + 2)) (b (at + 3));
-  flags = two_below (b (at + 4)) (b (at + 5));
-  kids = two_below (b (at + 6)) (b (at + 7));
-  start = four_below (b (at + 8)) (b (at + 9)) (b (at + 10)) (b (at + 11));
-  len = four_below (b (at + 12)) (b (at + 13)) (b (at + 14)) (b (at + 15));
-}
-
-nothing_bounded : Bounded nothing
-nothing_bounded = record { mark = lit< tt; kind = lit< tt; flags = lit< tt; kids = lit< tt; start = lit< tt; len = lit< tt }
-
-pub bounded : (t : List ℕ) (i : ℕ) → ((k : ℕ) → get_or t k 0 < 256) → Bounded (record_at t i)
-bounded t i b = either Bounded t i (sixteen_bounded t (i * 16) b) nothing_bounded
 
 -- two's complement
 pub signed_low : (n : ℕ) → n < 2 ^ 63 → signed n ≡ pos n
@@ -101,7 +70,3 @@ halves (a ∷ b ∷ c ∷ d ∷ bs) = omega arith
 pub number_bytes : (bs : List ℕ) → number_of (record_of bs) ≡ signed (field bs 8 8)
 unfolding number_of
 number_bytes bs = ap signed (rw (drop-drop 4 8 bs) at (halves (drop 8 bs)))
-
-pub number_at : (t : List ℕ) (i : ℕ) → number_of (record_at t i) ≡ signed (field (bytes_at t i) 8 8)
-unfolding record_at
-number_at t i = number_bytes (bytes_at t i)

@@ -1,11 +1,11 @@
 -- Laws of doubled quotes (02, viii): of bytes in two parts, of one byte and of one byte more; that the bytes are at most twice as many; that
--- bytes with no quote among them stay as they are; and how doubled quotes are poured byte by byte.
-use Rattle.std.specs.Prelude.{ℕ, ◌+◌, ◌*◌, ◌≤◌, ◌<◌, ◌≡◌, refl, List, [], ◌∷◌, ◌++◌, Bool, true, false, cond, ◌||◌, eqb, length, take, get_or}
-use Rattle.std.proofs.Common.{arith, add-one, ap, sym, take-suc, eq-eqb, ne_eqb}
+-- bytes with no quote among them stay as they are; and how a byte that is no quote is poured.
+use Rattle.std.specs.Prelude.{ℕ, ◌*◌, ◌≤◌, ◌≡◌, refl, List, [], ◌∷◌, ◌++◌, Bool, true, false, cond, ◌||◌, eqb, length}
+use Rattle.std.proofs.Common.{arith, ap, sym, eq-eqb, ne_eqb}
 use Rattle.std.proofs.lemmas.Bool.{false≢true}
 use Rattle.laws.specs.Text.{ascii}
 use Rattle.stream.specs.Sink.{State, most, pour, doubled}
-use Rattle.stream.specs.Laws.{pour_none, pour_more}
+use Rattle.stream.specs.Laws.{pour_none}
 
 -- a case: one quote inside, and one at the end
 pub doubled_case : doubled (ascii "it's '") ≡ ascii "it''s ''"
@@ -30,10 +30,6 @@ doubled_quote b e = rw (eq-eqb b 0x27 e)
 pub doubled_other : (b : ℕ) → (b ≡ 0x27 → ⊥) → doubled (b ∷ []) ≡ b ∷ []
 unfolding doubled
 doubled_other b n = rw (ne_eqb b 0x27 n)
-
--- a byte more
-pub doubled_more : (s : List ℕ) (i : ℕ) → i < length s → doubled (take (i + 1) s) ≡ doubled (take i s) ++ doubled (get_or s i 0 ∷ [])
-doubled_more s i h = rw (add-one i, take-suc s i 0) (doubled_append (take i s) (get_or s i 0 ∷ []))
 
 -- the bytes are at most twice as many
 pub doubled_length : (x : List ℕ) → length (doubled x) ≤ 2 * length x
@@ -63,14 +59,7 @@ doubled_none (b ∷ x) e = by (eqb b 0x27) e (doubled_none x)
 pub byte_once : (st t : State) (b : ℕ) → (b ≡ 0x27 → ⊥) → t ≡ pour st (b ∷ []) → t ≡ pour st (doubled (b ∷ []))
 byte_once st t b n p = rw (doubled_other b n) p
 
-pub quote_twice : (st t u : State) (b : ℕ) → length st.1 ≤ most → b ≡ 0x27 → t ≡ pour st (b ∷ []) → u ≡ pour t (b ∷ []) → u ≡ pour st (doubled (b ∷ []))
-quote_twice st t u b h e p q = rw (q, p, doubled_quote b e) (pour_more st (b ∷ []) (b ∷ []) h)
-
 -- one byte behind the other
 pub none_poured : (st : State) → st.0.at ≤ most → st ≡ pour st (doubled [])
 unfolding doubled
 none_poured st h = sym (pour_none st h)
-
-pub next_poured : (st t u : State) (v : List ℕ) (i : ℕ) → length st.1 ≤ most → i < length v
-    → t ≡ pour st (doubled (take i v)) → u ≡ pour t (doubled (get_or v i 0 ∷ [])) → u ≡ pour st (doubled (take (i + 1) v))
-next_poured st t u v i h l p q = rw (q, p, doubled_more v i l) (pour_more st (doubled (take i v)) (doubled (get_or v i 0 ∷ [])) h)

@@ -18,7 +18,8 @@ use Rattle.stream.specs.Length.{longest_token, weigh, weigh_append, weigh_none, 
 use Rattle.decimal.specs.Decimal as decimal
 use Rattle.decimal.specs.Laws.{length_decimal}
 use Rattle.record.specs.Record.{count, number_of}
-use Rattle.record.specs.Laws.{nothing as absent, past, bounded}
+use Rattle.record.specs.Laws.{nothing as absent, past}
+use Rattle.record.proofs.Laws.{bounded}
 use Rattle.record.specs.declared.Record.{Record}
 use Rattle.grammar.specs.Kind.{NONE, LIST, TOKEN, TEXT, NUMBER, REPLACE}
 use Rattle.grammar.specs.Shape.{Class, one, Shape, nothing, token, ident, word, said, line, when, is, slot, each, commas, row, lines, tuples, given, filled, replacing, decimal, brackets, quoted, rowid, source, both, later, ◌·◌}

@@ -1,12 +1,12 @@
 -- `stream::pour_doubled` meets its contract. The loop's invariant: the bytes before `i` are poured, each quote among them doubled; what is left falls with each turn.
-use Prim.Native.Nat.{◌≤◌, ◌-◌}
-use mathlib.Core.Path.{◌≡◌, ◌∙◌, ap}
+use mathlib.Core.Path.{◌∙◌, ap}
 use native.Mathlib.Omega.{arith}
-use lib.ListN.{length, take}
+use lib.ListN.{length}
 use lib.Seq.{take_all}
-use Rattle.stream.specs.Sink.{State, pour, doubled}
+use Rattle.stream.specs.Sink.{State}
 use Rattle.stream.specs.Laws.{pour_length}
-use Rattle.stream.specs.Doubled.{none_poured, next_poured}
+use Rattle.stream.specs.Doubled.{none_poured}
+use Rattle.stream.proofs.Quotes.{next_poured}
 use borrow.Author.Rules.{rules}
 use Rattle.stream.proofs.pour_doubled.Goals as goal
 

@@ -1,13 +1,8 @@
 -- `stream::pour_doubled` meets its contract. The loop's invariant: the bytes before `i` are poured, each quote among them doubled; what is left falls with each turn.
 use Prim.Native.Nat.{◌≤◌, ◌-◌}
-use mathlib.Core.Path.{◌≡◌, ◌∙◌, ap}
-use native.Mathlib.Omega.{arith}
+use mathlib.Core.Path.{◌≡◌}
 use lib.ListN.{length, take}
-use lib.Seq.{take_all}
-use Rattle.stream.specs.Sink.{State, pour, doubled}
-use Rattle.stream.specs.Laws.{pour_length}
-use Rattle.stream.specs.Doubled.{none_poured, next_poured}
-use borrow.Author.Rules.{rules}
+use Rattle.stream.specs.Sink.{pour, doubled}
 use Rattle.stream.proofs.pour_doubled.Given as goal
 
 abbrev pub invariant-loop-i : goal.invariant-loop-i

@@ -1,6 +1,7 @@
 -- `stream::twice` meets its contract: each way through it is one law.
 use borrow.Author.Rules.{rules}
-use Rattle.stream.specs.Doubled.{byte_once, quote_twice}
+use Rattle.stream.specs.Doubled.{byte_once}
+use Rattle.stream.proofs.Quotes.{quote_twice}
 use Rattle.stream.proofs.twice.Goals as goal
 
 pub returns-then-b-eq-QUOTE : goal.returns-then-b-eq-QUOTE
