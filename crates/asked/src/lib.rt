@@ -3,7 +3,11 @@
 
 ghost use Rattle.std.specs.Prelude.{◌≡◌};
 ghost use Rattle.laws.specs.Bytes.{same as same'};
+ghost use Rattle.io.specs.Counts.{IsPrefixLen};
 ghost use Rattle.asked.specs.Words.{option_of};
+
+use std::env::FillError;
+use std::rt::Env;
 
 // The options as `mode` has them.
 const STRICT: u32 = 1;
@@ -49,14 +53,36 @@ pub fn option(word: &[u8]) -> u32
     NO_OPTION
 }
 
+// How many words the program was started with, its own name among them.
+pub fn arg_count<R: Env>(rt: &R) -> usize {
+    let mut word = io::buffer();
+    for i in 0..usize::MAX {
+        if let Err(FillError::NotPresent) = rt.arg(i, &mut word) {
+            return i;
+        }
+    }
+    usize::MAX
+}
+
+// Puts a word that the program was started with at the start of a buffer, and answers how long it is: 0 where it is missing or
+// longer than the buffer.
+pub fn arg<R: Env>(rt: &R, i: usize, buf: &mut [u8]) -> usize
+    ensures { IsPrefixLen result buf.new }
+{
+    match rt.arg(i, buf) {
+        Ok(len) => len,
+        Err(_) => 0,
+    }
+}
+
 // The options that the program was started with. A word that asks for none is the first name.
-pub fn before_names() -> Asked {
+pub fn before_names<R: Env>(rt: &R) -> Asked {
     let mut word = io::buffer();
     let mut options = NO_OPTION;
     let mut words = 0;
-    let count = os::arg_count();
+    let count = arg_count(rt);
     while words < count {
-        let len = os::arg(words + 1, &mut word);
+        let len = arg(rt, words + 1, &mut word);
         let bit = option(&word[..len]);
         if bit == NO_OPTION {
             return Asked { options, words };

@@ -5,9 +5,12 @@
 // text that is not UTF-8; 65,537 bytes; and two tokens that each have all of a text of 65,536 bytes.
 #![tactic(auto)]
 
-use libc::STDOUT_FILENO;
 use mode::NO_OPTIONS;
 use render::Outcome;
+use std::rt::Files;
+
+// The descriptor of standard output.
+const STDOUT_FILENO: i32 = 1;
 
 // Section 6's tree: a Cmd, a DropType with its flag, and a TEXT of three bytes.
 const TREE: [u8; 48] = *b"\
@@ -45,14 +48,14 @@ fn render_case(name: &[u8], out: &mut [u8]) {
 }
 
 // What the printing program prints for two files. A text has no newline at its end, so one is printed behind it.
-fn text_case(name: &[u8], tree: &[u8], text: &[u8]) {
-    refusal_case(name, tree, text);
+fn text_case<R: Files>(rt: &R, name: &[u8], tree: &[u8], text: &[u8]) {
+    refusal_case(rt, name, tree, text);
     io::write_all(STDOUT_FILENO, b"\n");
 }
 
-fn refusal_case(name: &[u8], tree: &[u8], text: &[u8]) {
+fn refusal_case<R: Files>(rt: &R, name: &[u8], tree: &[u8], text: &[u8]) {
     print_name(name);
-    printer::print_files(NO_OPTIONS, tree, text);
+    printer::print_files(rt, NO_OPTIONS, tree, text);
 }
 
 // Section 6's tree, measured, and rendered to outputs of several lengths.
@@ -69,23 +72,28 @@ fn rooms() {
 }
 
 // Two files, as the printing program is given them.
-fn files() {
-    text_case(b"drop type", b"drop_type.tree", b"geo");
-    text_case(b"check source", b"check.tree", b"dashes");
-    text_case(b"depth 64", b"depth_64.tree", b"empty");
-    refusal_case(b"depth 65", b"depth_65.tree", b"empty");
-    refusal_case(b"wrong mark, bad UTF-8", b"wrong_mark.tree", b"bad_utf8");
-    refusal_case(b"wrong mark", b"wrong_mark.tree", b"geo");
-    refusal_case(b"empty tree", b"empty", b"geo");
-    refusal_case(b"long tree", b"too_long", b"geo");
-    refusal_case(b"long text", b"drop_type.tree", b"too_long");
-    refusal_case(b"text over the buffer", b"wide.tree", b"longest");
-    refusal_case(b"no such tree", b"missing", b"geo");
-    refusal_case(b"no such text", b"drop_type.tree", b"missing");
-    refusal_case(b"a folder", b".", b"geo");
+fn files<R: Files>(rt: &R) {
+    text_case(rt, b"drop type", b"drop_type.tree", b"geo");
+    text_case(rt, b"check source", b"check.tree", b"dashes");
+    text_case(rt, b"depth 64", b"depth_64.tree", b"empty");
+    refusal_case(rt, b"depth 65", b"depth_65.tree", b"empty");
+    refusal_case(
+        rt,
+        b"wrong mark, bad UTF-8",
+        b"wrong_mark.tree",
+        b"bad_utf8",
+    );
+    refusal_case(rt, b"wrong mark", b"wrong_mark.tree", b"geo");
+    refusal_case(rt, b"empty tree", b"empty", b"geo");
+    refusal_case(rt, b"long tree", b"too_long", b"geo");
+    refusal_case(rt, b"long text", b"drop_type.tree", b"too_long");
+    refusal_case(rt, b"text over the buffer", b"wide.tree", b"longest");
+    refusal_case(rt, b"no such tree", b"missing", b"geo");
+    refusal_case(rt, b"no such text", b"drop_type.tree", b"missing");
+    refusal_case(rt, b"a folder", b".", b"geo");
 }
 
-fn main() {
+fn main(rt: HostRuntime) {
     rooms();
-    files();
+    files(&rt);
 }

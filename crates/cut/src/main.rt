@@ -2,11 +2,11 @@
 #![tactic(auto)]
 
 use files::ROOM;
-use libc::STDIN_FILENO;
 
-fn main() {
+fn main(rt: HostRuntime) {
     let mut text = [0u8; ROOM];
-    let got = files::read_to_end(STDIN_FILENO, &mut text);
+    let mut input = rt.stdin();
+    let got = files::read_to_end(&mut input, &mut text);
     if !got.whole {
         files::print_unreadable();
         return;

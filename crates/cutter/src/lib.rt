@@ -4,8 +4,10 @@
 ghost use Rattle.std.specs.Prelude.{◌≡◌, ◌+◌, ◌≤◌, ◌<◌, ◌^◌, length};
 ghost use Rattle.cutter.specs.Line.{Stored, name_of, spaced, line_of};
 
-use libc::STDOUT_FILENO;
 use reader::{BLOB, END, MARK, NUMBER, OPERATOR, QUOTED, STOP, VARIABLE, WORD};
+
+// The descriptor of standard output.
+const STDOUT_FILENO: i32 = 1;
 
 // The longest line: a name of eight letters, two numbers of ten digits with a space before each, and a newline.
 const LINE: usize = 31;

@@ -1,10 +1,16 @@
 // Prints the text of a tree that stands in two files (01, section 6): the text, or a refusal, or that they cannot be read.
 #![tactic(auto)]
 
+ghost use Rattle.std.specs.Prelude.{◌≡◌};
 ghost use Rattle.io.specs.Counts.{IsPrefixLen};
 
-use libc::STDOUT_FILENO;
 use render::Outcome;
+use std::fs::File;
+use std::io::Read;
+use std::rt::Files;
+
+// The descriptor of standard output.
+const STDOUT_FILENO: i32 = 1;
 
 // One byte more than a tree or a text may have, so that one that is longer is seen to be.
 pub const ROOM: usize = 65537;
@@ -19,32 +25,65 @@ pub struct Got {
     pub len: usize,
 }
 
+// Reads until the buffer is full, the input ends or a read fails, and answers how many bytes stand at its start.
+fn read_full<S: Read>(from: &mut S, buf: &mut [u8]) -> usize
+    ensures { IsPrefixLen result buf.new }
+{
+    let mut done = 0;
+    while done < buf.len() {
+        let n = match from.read(&mut buf[done..]) {
+            Ok(n) => n,
+            Err(_) => 0,
+        };
+        if n == 0 {
+            return done;
+        }
+        done += n;
+    }
+    done
+}
+
+// Whether an input has ended: a read gives 0 bytes.
+fn is_at_end<S: Read>(from: &mut S) -> bool {
+    let mut behind = [0u8; 1];
+    match from.read(&mut behind) {
+        Ok(n) => n == 0,
+        Err(_) => false,
+    }
+}
+
 // Reads an open file to its end, or until the buffer is full. Behind the end a read gives 0 bytes.
-fn read_to_end(fd: i32, buf: &mut [u8]) -> Got
+fn read_to_end<S: Read>(from: &mut S, buf: &mut [u8]) -> Got
     ensures { IsPrefixLen result.len buf.new }
 {
-    let len = io::read_full(fd, buf);
-    let mut behind = [0u8; 1];
+    let len = read_full(from, buf);
     Got {
-        whole: (len == buf.len()) || (libc::read(fd, &mut behind) == 0),
+        whole: (len == buf.len()) || is_at_end(from),
         len,
     }
 }
 
-// Reads the file of a name.
-pub fn read_file(name: &[u8], buf: &mut [u8]) -> Got
+// What reading a file comes to that cannot be opened.
+fn unopened() -> Got
+    ensures { result.len ≡ 0 }
+{
+    Got {
+        whole: false,
+        len: 0,
+    }
+}
+
+// Reads the file of a name. No file is opened by a name that is not UTF-8.
+pub fn read_file<R: Files>(rt: &R, name: &[u8], buf: &mut [u8]) -> Got
     ensures { IsPrefixLen result.len buf.new }
 {
-    let fd = os::open_read(name);
-    if fd < 0 {
-        return Got {
-            whole: false,
-            len: 0,
-        };
+    let Ok(path) = str::from_utf8(name) else {
+        return unopened();
+    };
+    match File::open(rt, path) {
+        Ok(mut file) => read_to_end(&mut file, buf),
+        Err(_) => unopened(),
     }
-    let got = read_to_end(fd, buf);
-    libc::close(fd);
-    got
 }
 
 // Prints that a file cannot be read.
@@ -79,11 +118,11 @@ fn print_text(options: u32, tree: &[u8], text: &[u8]) {
 }
 
 // Prints the text of the tree and the text that stand in the files of these names, with these options.
-pub fn print_files(options: u32, tree_name: &[u8], text_name: &[u8]) {
+pub fn print_files<R: Files>(rt: &R, options: u32, tree_name: &[u8], text_name: &[u8]) {
     let mut trees = [0u8; ROOM];
     let mut texts = [0u8; ROOM];
-    let tree = read_file(tree_name, &mut trees);
-    let text = read_file(text_name, &mut texts);
+    let tree = read_file(rt, tree_name, &mut trees);
+    let text = read_file(rt, text_name, &mut texts);
     if !tree.whole || !text.whole {
         print_unreadable();
         return;

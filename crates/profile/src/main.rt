@@ -2,6 +2,7 @@
 #![tactic(auto)]
 
 use printer::ROOM;
+use std::rt::Files;
 
 // The program's own name and the two files.
 const ARGS: usize = 3;
@@ -13,11 +14,11 @@ fn print_verdict(options: u32, tree: &[u8], text: &[u8]) {
 }
 
 // The same for the tree and the text that stand in the files of these names.
-fn profile_files(options: u32, tree_name: &[u8], text_name: &[u8]) {
+fn profile_files<R: Files>(rt: &R, options: u32, tree_name: &[u8], text_name: &[u8]) {
     let mut trees = [0u8; ROOM];
     let mut texts = [0u8; ROOM];
-    let tree = printer::read_file(tree_name, &mut trees);
-    let text = printer::read_file(text_name, &mut texts);
+    let tree = printer::read_file(rt, tree_name, &mut trees);
+    let text = printer::read_file(rt, text_name, &mut texts);
     if !tree.whole || !text.whole {
         printer::print_unreadable();
         return;
@@ -27,13 +28,13 @@ fn profile_files(options: u32, tree_name: &[u8], text_name: &[u8]) {
     print_verdict(options, &trees[..tree_len], &texts[..text_len]);
 }
 
-fn main() {
+fn main(rt: HostRuntime) {
     let mut tree = io::buffer();
     let mut text = io::buffer();
-    let asked = asked::before_names();
+    let asked = asked::before_names(&rt);
     let options = asked.options;
     let words = asked.words;
-    let count = os::arg_count();
+    let count = asked::arg_count(&rt);
     if count < ARGS {
         printer::print_unreadable();
         return;
@@ -43,7 +44,7 @@ fn main() {
         return;
     }
     // A name that is missing or too long is empty, and no file has it.
-    let tree_len = os::arg(count - 2, &mut tree);
-    let text_len = os::arg(count - 1, &mut text);
-    profile_files(options, &tree[..tree_len], &text[..text_len]);
+    let tree_len = asked::arg(&rt, count - 2, &mut tree);
+    let text_len = asked::arg(&rt, count - 1, &mut text);
+    profile_files(&rt, options, &tree[..tree_len], &text[..text_len]);
 }

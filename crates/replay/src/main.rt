@@ -9,7 +9,11 @@ ghost use Rattle.std.specs.Prelude.{◌≡◌, ◌≤◌, length};
 ghost use Rattle.replay.specs.Case.{room, Within};
 
 use append::{Answer, Stream};
-use libc::{STDIN_FILENO, STDOUT_FILENO};
+
+// The descriptors of standard input and output.
+const STDIN_FILENO: i32 = 0;
+
+const STDOUT_FILENO: i32 = 1;
 
 // The bytes before a token's value.
 const HEAD: usize = 4;

@@ -3,7 +3,8 @@
 // A case is the length of its text, four bytes, little-endian, and the text's bytes.
 #![tactic(auto)]
 
-use libc::STDIN_FILENO;
+// The descriptor of standard input.
+const STDIN_FILENO: i32 = 0;
 
 // The bytes before a text: its length.
 const HEAD: usize = 4;

@@ -8,8 +8,10 @@
 
 ghost use Rattle.std.specs.Prelude.{◌≡◌, ◌+◌, ◌≤◌, length};
 
-use libc::STDIN_FILENO;
 use render::jobs::Job;
+
+// The descriptor of standard input.
+const STDIN_FILENO: i32 = 0;
 
 // The bytes before the jobs: the options, the number of jobs and three lengths.
 const HEAD: usize = 20;

@@ -5,7 +5,9 @@
 #![tactic(auto)]
 
 use field::Verdict;
-use libc::STDIN_FILENO;
+
+// The descriptor of standard input.
+const STDIN_FILENO: i32 = 0;
 
 // The bytes before a tree: the options and the two lengths.
 const HEAD: usize = 12;

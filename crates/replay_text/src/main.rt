@@ -5,8 +5,10 @@
 // the text's bytes.
 #![tactic(auto)]
 
-use libc::STDIN_FILENO;
 use render::Outcome;
+
+// The descriptor of standard input.
+const STDIN_FILENO: i32 = 0;
 
 // The bytes before a tree: the options and the two lengths.
 const HEAD: usize = 12;

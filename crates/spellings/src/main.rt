@@ -1,7 +1,8 @@
 // Prints the spelling table, a line for each number: the number, then its spelling, if it has one, or ` unknown`.
 #![tactic(auto)]
 
-use libc::STDOUT_FILENO;
+// The descriptor of standard output.
+const STDOUT_FILENO: i32 = 1;
 
 // Numbers from here on are not printed.
 const NUMBERS: u16 = 256;

@@ -1,0 +1,11 @@
+-- `asked::same` meets its contract. The loop's invariant: the bytes before `i` are the same; what is left falls with each turn.
+use Prim.Native.Nat.{ℕ, ◌≤◌, ◌<◌, ◌-◌}
+use mathlib.Core.Path.{◌≡◌}
+use lib.ListN.{length, get_or}
+use Rattle.asked.proofs.same.Given as goal
+
+abbrev pub invariant-loop-i : goal.invariant-loop-i
+invariant-loop-i l = (length l.a ≡ length l.b) × ((l.i ≤ length l.a) × ((j : ℕ) → j < l.i → get_or l.a j 0 ≡ get_or l.b j 0))
+
+abbrev pub decreases-loop-i : goal.decreases-loop-i
+decreases-loop-i l = length l.a - l.i
