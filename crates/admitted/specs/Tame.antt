@@ -53,19 +53,6 @@ tame (both a b) = tame a && tame b
 tame (later a b) = tame a && tame b
 tame (a · b) = tame a && tame b
 
--- all entries but a RUN's, which holds TOKENs and no slots
-pub tamed : (k : ℕ) → eqb k RUN ≡ false → tame (shape k) ≡ true
-unfolding tame plain slots_of same_all same_class
-tamed k n = rw n at (entry (λ m s. eqb m RUN || tame s) k (or-true (eqb k RUN)) refl)
-
-pub no_list : (c : Class) (k : ℕ) → plain c ≡ true → allowed c k ≡ true → eqb k LIST ≡ false
-unfolding plain allowed
-no_list (one ks) k p h = not-true (eqb k LIST) (each-among (λ m. not (eqb m LIST)) k ks p h)
-no_list (list c) k p h = absurd (false≢true p)
-no_list (one_or ks c) k p h = absurd (false≢true p)
-no_list small k p h = absurd (false≢true p)
-no_list (ruled u) k p h = absurd (false≢true p)
-
 -- a kind whose records have no children, and a place where only such may stand
 abbrev pub barren : ℕ → Bool
 barren k = not (eqb k LIST) && (not (eqb k RUN) && slots 0 (shape k))
@@ -76,20 +63,3 @@ barren_place (list c) = false
 barren_place (one_or ks c) = false
 barren_place small = barren NUMBER
 barren_place (ruled u) = barren NONE && barren TEXT
-
-pub barren_kind : (c : Class) (k : ℕ) → barren_place c ≡ true → allowed c k ≡ true → barren k ≡ true
-unfolding barren_place allowed
-barren_kind (one ks) k p h = each-among barren k ks p h
-barren_kind (list c) k p h = absurd (false≢true p)
-barren_kind (one_or ks c) k p h = absurd (false≢true p)
-barren_kind small k p h = rw (eqb-true k NUMBER h) p
-barren_kind (ruled u) k p h = by (eqb k NONE) refl h
-  where
-    by : (b : Bool) → eqb k NONE ≡ b → (b || eqb k TEXT) ≡ true → barren k ≡ true
-    by true q y = rw (eqb-true k NONE q) (and_left (barren NONE) (barren TEXT) p)
-    by false q y = rw (eqb-true k TEXT y) (and_right (barren NONE) (barren TEXT) p)
-
--- no slots
-pub none_held : (cs : List Class) → length cs ≡ 0 → cs ≡ []
-none_held [] h = refl
-none_held (d ∷ ds) h = absurd (omega arith)

@@ -29,7 +29,8 @@ use Rattle.tree.specs.Check.{has_part, malformed, answer_in, ChecksIn, number_of
 use Rattle.tree.specs.Whole as whole
 use Rattle.tree.specs.declared.Answer.{Answer}
 use Rattle.tree.specs.declared.Answer.TheVariants.{Admitted, Malformed, Broken}
-use Rattle.admitted.specs.Named.{part_of, Agree, text_same}
+use Rattle.admitted.specs.Named.{part_of, Agree}
+use Rattle.admitted.proofs.Named.{text_same}
 use Rattle.render.specs.declared.Outcome.{Outcome}
 use Rattle.render.specs.Render.{text_in, measured, rendered, output_after, MeasuresIn, RendersIn}
 use Rattle.kinyandoma.specs.Trees as Call

@@ -23,7 +23,7 @@ use Rattle.tree.specs.declared.Answer.{Answer}
 use Rattle.tree.specs.declared.Answer.TheVariants.{Admitted, Malformed, TooLong, Broken, Mark, Misfit, Outside, Unclosed, NotRowid, Deep}
 use Rattle.rules.specs.Whole.{plain_looser, looser}
 use Rattle.tokens.specs.Tokens.{in_edition}
-use Rattle.admitted.specs.Fills.{root_filled}
+use Rattle.admitted.proofs.Fills.{root_filled}
 use Rattle.render.specs.Render as render
 use Rattle.render.specs.Render.{refuses, measured, text_in, MeasuresIn}
 use Rattle.render.specs.Laws.{measures_unique, measures_small, number_small as outcome-small}

@@ -14,7 +14,8 @@ use Rattle.tree.specs.Check.{Place, place, holds, fits}
 use Rattle.tree.specs.Steps.{childless}
 use Rattle.tree.specs.Walk.{refused}
 use Rattle.tokens.specs.Tokens.{in_edition}
-use Rattle.admitted.specs.Fills.{Fills, fill}
+use Rattle.admitted.specs.Fills.{Fills}
+use Rattle.admitted.proofs.Fills.{fill}
 use Rattle.field.specs.Profile.{breaks, stopped, behind, first_break}
 use Rattle.field.specs.Nodes.{nodes_at, nodes_below, codes, breaks_by, breaks_is, depth_left, codes_below}
 use Rattle.field.specs.declared.Found.{Found}

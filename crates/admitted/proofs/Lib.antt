@@ -1,0 +1,10 @@
+pub mod Watched
+pub mod Same
+pub mod Tame
+pub mod Fills
+pub mod Watching
+pub mod Solved
+pub mod Admitted
+pub mod Editions
+pub mod Named
+pub mod Ample

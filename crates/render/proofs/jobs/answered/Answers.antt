@@ -1,0 +1,7 @@
+-- `render::jobs::answered` meets its contract: what the call says is in its fields.
+use mathlib.Core.Path.{refl}
+use borrow.Author.Rules.{rules}
+use Rattle.render.proofs.jobs.answered.Goals as goal
+
+pub returns : goal.returns
+returns c = refl
