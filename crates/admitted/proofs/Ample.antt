@@ -26,7 +26,8 @@ use Rattle.tree.specs.declared.Answer.TheVariants.{Malformed, TooLong, Broken, M
 use Rattle.tokens.specs.Tokens.{Source, in_edition, part, text_of}
 use Rattle.tokens.specs.Ample.{sum, sum_next, lengths, ample_for}
 use Rattle.tokens.specs.Weights.{base, around, own, each_slot, shape_affordable, cut_short}
-use Rattle.tokens.specs.Bound.{pays, paid, text_paid}
+use Rattle.tokens.specs.Bound.{pays, paid}
+use Rattle.tokens.proofs.Bound.{text_paid}
 use Rattle.admitted.proofs.Fills.{slots_hold}
 use Rattle.admitted.specs.Ample.{Counted, Fit, children}
 

@@ -26,7 +26,7 @@ use Rattle.tree.specs.declared.Answer.TheVariants.{Malformed, TooLong, Broken, M
 use Rattle.tokens.specs.Tokens.{Source, in_edition, part, text_of}
 use Rattle.tokens.specs.Ample.{sum, sum_next, lengths, ample_for}
 use Rattle.tokens.specs.Weights.{base, around, own, each_slot, shape_affordable, cut_short}
-use Rattle.tokens.specs.Bound.{pays, paid, text_paid}
+use Rattle.tokens.specs.Bound.{pays, paid}
 
 -- how many children the first n records have
 abbrev pub children : List ℕ → ℕ → ℕ

@@ -20,7 +20,7 @@ use Rattle.tree.specs.Whole as whole
 use Rattle.tree.specs.Bounds.{place_small, admitted_short, number_small as tree-number-small}
 use Rattle.tree.specs.declared.Answer.{Answer}
 use Rattle.tokens.specs.Tokens.{tokens_of}
-use Rattle.tokens.specs.Bound.{text_fits}
+use Rattle.tokens.proofs.Bound.{text_fits}
 use Rattle.tokens.specs.Tokens.{in_edition}
 use Rattle.pen.specs.Pen.{emit}
 use Rattle.pen.specs.Emit.{fresh, text_counted, text_stored}

@@ -8,7 +8,6 @@ use mathlib.Core.List.{List, [], ◌∷◌, ◌++◌, map}
 use Rattle.std.proofs.Math.Bool.{true, false}
 use Rattle.std.proofs.lemmas.Bool.{false≢true}
 use Rattle.std.proofs.Math.Dec.{eqb}
-use borrow.Author.Tests.{eqb-true}
 use Rattle.laws.specs.First.{first}
 use Rattle.mode.specs.Options.{is_sqlite, plain}
 use Rattle.mode.specs.declared.Edition.{Edition}
@@ -23,15 +22,14 @@ use Rattle.tree.specs.Check.{Place, place, holds, fits, inside, swallows, misnam
 use Rattle.tree.specs.Bounds.{tree_short}
 use Rattle.tree.specs.declared.Answer.{Answer}
 use Rattle.tree.specs.declared.Answer.TheVariants.{Malformed, TooLong, Broken, Mark, Misfit, Outside, Unclosed, NotRowid, Deep}
-use Rattle.rules.specs.Rules.{rule_at, sound_to, behind, broken, ruled, join, sound_within}
-use Rattle.rules.specs.Walk.{Reached, resumed, Rules, Led, Finds}
-use Rattle.rules.specs.declared.Found.{Found}
+use Rattle.rules.specs.Rules.{rule_at, sound_to, sound_within}
+use Rattle.rules.specs.Walk.{Reached, Rules, Led}
 
 -- the root's place, which has no rule
-abbrev at_root : List Place
+abbrev pub at_root : List Place
 at_root = place 1 root ∷ []
 
-root_rules : Rules root_at 0 1
+pub root_rules : Rules root_at 0 1
 unfolding rule_at class_at classes
 root_rules = record { held = refl; rules = refl }
 
@@ -57,7 +55,7 @@ module _ (t x : List ℕ) (a : Answer) (c : Answered t x a) where
   unfolding answer_in
   scanned h = early_or t (malformed t) (ltb longest (length x)) (not (eqb (utf8.number c.encoding) 0)) c.encoding a _ c.answers h
 
-  root_reached : Reached t x (sound_to t a) 0 (place 1 (class_at root_at) ∷ [])
+  pub root_reached : Reached t x (sound_to t a) 0 (place 1 (class_at root_at) ∷ [])
   root_reached h = let z : count t - 0 ≡ count t = omega arith in rw (root_is, z) (sym (ap (sound_to t) (scanned h)))
 
   pub led : Led t x (sound_to t a) 0 64 0 1
@@ -74,41 +72,6 @@ module _ (t x : List ℕ) (a : Answer) (c : Answered t x a) where
       by false q true b = omega arith
       by false q false true = omega arith
       by false q false false = omega (arith, sound_within t x (count t) 0 at_root (omega arith), tree_short t q)
-
--- ---- what the walk finds is what is broken
-module _ (m : Mode) (t x : List ℕ) (a : Answer) (c : Answered t x a) where
-  -- a walk over no places is at its end
-  none_left : (n i : ℕ) → broken m t x n i [] ≡ behind 0
-  unfolding broken
-  none_left zero i = refl
-  none_left (suc n) i = refl
-
-  module _ (w : Found) (found : Finds m t x (sound_to t a) 0 64 0 1 w) where
-    walked : broken m t x (sound_to t a) 0 at_root ≡ resumed m t x (sound_to t a) w []
-    walked = let z : sound_to t a - 0 ≡ sound_to t a = omega arith in rw (root_is, z) at ((found root_at root_rules).is [] (root_reached t x a c))
-
-    ruled_same : ruled a (broken m t x (sound_to t a) 0 at_root) ≡ ruled a w
-    unfolding ruled resumed
-    ruled_same = by (eqb w.fault 0) refl
-      where
-        by : (b : Bool) → eqb w.fault 0 ≡ b → ruled a (broken m t x (sound_to t a) 0 at_root) ≡ ruled a w
-        by true q = rw (walked, q, none_left (sound_to t a - w.at) w.at, eqb-true w.fault 0 q)
-        by false q = rw (walked, q)
-
-    pub in_mode : Ruled m t x a (ruled a w)
-    unfolding answer_in ruled broken
-    in_mode e is = sym ruled_same ∙ by (malformed t) (ltb longest (length x)) (not (eqb (utf8.number e) 0)) is
-      where
-        by : (f l b : Bool) → a ≡ first ((f, Malformed) ∷ (l, TooLong) ∷ (b, Broken e) ∷ []) (scan t x (count t) 0 at_root)
-            → ruled a (broken m t x (sound_to t a) 0 at_root)
-            ≡ first ((f, Malformed) ∷ (l, TooLong) ∷ (b, Broken e) ∷ []) (scan_in m t x (count t) 0 at_root)
-        by true l b q = rw q
-        by false true b q = rw q
-        by false false true q = rw q
-        by false false false q =
-            let s = scan t x (count t) 0 at_root in
-            let z : sound_to t s - 0 ≡ sound_to t s = omega arith in
-            rw q (sym (rw z at (join m t x (count t) 0 at_root (omega arith))))
 
 -- ---- with no rule in force the mode is 01's
 crate_is : (v : Edition) → is_sqlite v ≡ false → Crate ≡ v

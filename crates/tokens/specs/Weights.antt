@@ -1,6 +1,6 @@
 -- What single tokens and the words of a shape come to, in bytes: for the bound of a text.
 use Rattle.std.specs.Prelude.{ℕ, zero, suc, ◌+◌, ◌*◌, ◌^◌, ◌≤◌, ◌<◌, ◌≡◌, refl, List, [], ◌∷◌, Bool, true, false, cond, ◌&&◌, eqb, leb, length, take, drop, nat_abs}
-use Rattle.std.proofs.Common.{arith, add-mul, length-append, length-take, length-drop, leb-true, leb-false}
+use Rattle.std.proofs.Common.{arith, add-mul, length-take, length-drop, leb-true, leb-false}
 use Rattle.laws.specs.Text.{ascii}
 use Rattle.laws.specs.Tests.{and_parts}
 use Rattle.spelling.specs.Rows.{rows}
@@ -21,7 +21,7 @@ use Rattle.grammar.specs.Shape.{Shape, nothing, token, ident, word, said, line, 
 use Rattle.grammar.specs.Grammar.{shape}
 use Rattle.grammar.specs.Slots.{slots_of}
 use Rattle.grammar.specs.Entries.{entry}
-use Rattle.tokens.specs.Corners.{bare, id, newline, second_part, without, dashes, sourced, inner, quote, pairs}
+use Rattle.tokens.specs.Corners.{bare, id, newline, second_part, without, dashes, sourced, inner, pairs}
 use Rattle.tokens.specs.Tokens.{comma, anything, between}
 
 -- no tree and no text is longer than this, and no LIST has more elements
@@ -158,14 +158,10 @@ between_weight v ts us = by (is_sqlite v && (anything ts && anything us))
     by true = omega (arith, comma_weight)
     by false = omega (arith, weigh_none)
 
-inner_length : (v : Edition) (x : List ℕ) → length (inner v x) ≤ 2 * length x
+pub inner_length : (v : Edition) (x : List ℕ) → length (inner v x) ≤ 2 * length x
 unfolding inner
 inner_length Crate x = omega arith
 inner_length Sqlite x = doubled_length x
-
-pub quote_weight : (v : Edition) (x : List ℕ) → weigh (quote v x ∷ []) ≤ longest_token + 2 + 2 * length x
-unfolding quote
-quote_weight v x = omega (arith, weigh_one (quote v x), length-append (inner v x) (ascii "'"), inner_length v x)
 
 -- a NUMBER is of 64 bits
 pub number_fits : (r : Record) → r.start < 2 ^ 32 → r.len < 2 ^ 32 → nat_abs (number_of r) ≤ 2 ^ 63

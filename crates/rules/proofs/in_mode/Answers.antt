@@ -1,6 +1,7 @@
 -- `rules::in_mode` meets its contract: with no rule in force the mode is 01's; and else the walk over the records that 01's check finds sound comes to
 -- the first that breaks a rule, which is the answer, or 01's is.
-use Rattle.rules.specs.Whole.{as_plain, led, sound_few, in_mode}
+use Rattle.rules.specs.Whole.{as_plain, led, sound_few}
+use Rattle.rules.proofs.Whole.{in_mode}
 use mathlib.Core.Bool.{◌||◌}
 use borrow.Author.Tests.{not-true}
 use native.Mathlib.Omega.{arith}
