@@ -16,7 +16,7 @@ use Rattle.render.specs.declared.Outcome.TheVariants.{Done, Refused, NoRoom}
 use Rattle.render.specs.declared.jobs.Job.{Job}
 use Rattle.render.specs.Render.{text_in, output_after, number_of, place_of}
 use Rattle.render.specs.Jobs.{outside, tree_of, written, Called, Single, InOrder, none, one, RendersJobs}
-use Rattle.render.specs.JobsLaws.{single_room, jobs_same}
+use Rattle.render.proofs.JobsLaws.{single_room, jobs_same}
 use Rattle.reading.specs.Reading.{Lexed, Cuts}
 use Rattle.reading.specs.Readable.{Readable}
 use Rattle.reading.proofs.Demand3.{tree_gives_back}

@@ -19,7 +19,8 @@ use Rattle.tree.specs.Check.{Place, place, holds, ChecksIn}
 use Rattle.tree.specs.declared.Answer.TheVariants.{Admitted}
 use Rattle.render.specs.Render as render
 use Rattle.render.specs.Render.{text_in, output_after, MeasuresIn, RendersIn}
-use Rattle.render.specs.Laws.{measures_unique, agree}
+use Rattle.render.specs.Laws.{measures_unique}
+use Rattle.render.proofs.Laws.{agree}
 use Rattle.render.specs.declared.Outcome.{Outcome}
 use Rattle.render.specs.declared.Outcome.TheVariants.{Done}
 use Rattle.field.specs.Profile.{foreign, first_node, takes_node, deepest, breaks, stopped, first_break, broken, profiled, ProfilesIn, number_of}

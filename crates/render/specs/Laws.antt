@@ -128,15 +128,6 @@ renders_unique mode t x out o p l m f g =
     let s : o ≡ p = f.answers ∙ ap (λ (a : Answer). rendered a (length out) text) q ∙ sym g.answers in
     (s, f.writes ∙ ap (λ (u : Outcome). output_after u text out) s ∙ sym g.writes)
 
--- the counting pass and the writing pass agree: where there is room for what measure answers, render answers the same
-pub agree : (mode : Mode) (t x out out' : List ℕ) (o p : Outcome) → ((n : ℕ) → o ≡ Done n → n ≤ length out) → MeasuresIn mode t x o → RendersIn mode t x out p out' → p ≡ o
-agree mode t x out out' (Done n) p room m r =
-    (renders_unique mode t x out p (Done n) out' _ r (written out m (room n refl) refl)).0
-agree mode t x out out' (Refused a) p room m r =
-    (renders_unique mode t x out p (Refused a) out' out r (kept out (λ n e. let z : ◌≡◌ {A = ℕ} 0 1 = cc in omega arith) m)).0
-agree mode t x out out' (NoRoom k) p room m r =
-    (renders_unique mode t x out p (NoRoom k) out' out r (kept out (λ n e. let z : ◌≡◌ {A = ℕ} 0 1 = cc in omega arith) m)).0
-
 -- ---- a number is one of 01's, and a place is far below 2^32, so that the two can be told apart in one number
 pub number_small : (o : Outcome) → number_of o < 16
 number_small (Done n) = omega arith
@@ -160,7 +151,7 @@ module _ {mode : Mode} {t x : List ℕ} {a : Answer} (c : ChecksIn mode t x a) (
   unfolding measured
   measured_small = refused_or (Done (length (text_in mode.edition t x))) (λ h. h)
 
-  rendered_small : (size : ℕ) → Small (rendered a size (text_in mode.edition t x))
+  pub rendered_small : (size : ℕ) → Small (rendered a size (text_in mode.edition t x))
   unfolding rendered
   rendered_small size = refused_or _ (λ h. by h (ltb size (length (text_in mode.edition t x))))
     where
@@ -170,9 +161,6 @@ module _ {mode : Mode} {t x : List ℕ} {a : Answer} (c : ChecksIn mode t x a) (
 
 pub measures_small : {mode : Mode} {t x : List ℕ} {o : Outcome} → ((k : ℕ) → get_or t k 0 < 256) → MeasuresIn mode t x o → place_of o < 2 ^ 32
 measures_small b m = rw m.answers (measured_small m.checks b)
-
-pub renders_small : {mode : Mode} {t x out out' : List ℕ} {o : Outcome} → ((k : ℕ) → get_or t k 0 < 256) → RendersIn mode t x out o out' → place_of o < 2 ^ 32
-renders_small {mode} {t} {x} {out} b m = rw m.answers (rendered_small m.checks b (length out))
 
 -- ---- what was written fits the output
 pub done_fits : {mode : Mode} {t x out out' : List ℕ} {n : ℕ} → RendersIn mode t x out (Done n) out' → n ≤ length out

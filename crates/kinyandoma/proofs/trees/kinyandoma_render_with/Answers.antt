@@ -1,6 +1,6 @@
 -- `kinyandoma::trees::kinyandoma_render_with` meets its contract: a length fits the place of an answer.
 use native.Mathlib.Omega.{arith}
-use Rattle.render.specs.Laws.{renders_small}
+use Rattle.render.proofs.Laws.{renders_small}
 use borrow.Author.Rules.{rules}
 use Rattle.kinyandoma.proofs.trees.kinyandoma_render_with.Goals as goal
 

@@ -1,11 +1,12 @@
 -- `render::jobs::one` meets its contract: it is outside the tree buffer, or the single call on the room that is left.
-use mathlib.Core.Path.{◌≡◌, refl, ◌∙◌, sym}
+use mathlib.Core.Path.{◌≡◌, ◌∙◌, sym}
 use native.Mathlib.Omega.{arith}
 use Prim.Native.Nat.{◌+◌, ◌-◌, ◌≤◌}
 use lib.ListN.{length, drop, length-take, length-drop}
 use Rattle.stream.specs.Sink.{most}
 use Rattle.tree.specs.Told.{told_checks}
-use Rattle.render.specs.JobsLaws.{is_beyond, is_within, called, inside_ends, written_fits}
+use Rattle.render.specs.JobsLaws.{is_beyond, is_within, called, inside_ends}
+use Rattle.render.proofs.JobsLaws.{written_fits}
 use borrow.Author.Rules.{rules}
 use Rattle.render.proofs.jobs.one.Goals as goal
 

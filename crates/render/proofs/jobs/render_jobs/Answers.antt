@@ -1,7 +1,7 @@
 -- `render::jobs::render_jobs` meets its contract. Of `one`, `spelling::pool` and `utf8::check` the contracts are all that is known.
-use Rattle.std.proofs.Common.{◌≡◌, ◌<◌, ◌≤◌, length, arith}
+use Rattle.std.proofs.Common.{◌<◌, length, arith}
 use Rattle.render.specs.JobsLaws as laws
-use Rattle.render.specs.JobsLaws.{single_room}
+use Rattle.render.proofs.JobsLaws.{single_room}
 use Rattle.render.proofs.jobs.render_jobs.Goals as goal
 
 pub loop-i-preserved : goal.loop-i-preserved
