@@ -10,10 +10,9 @@ use Rattle.std.proofs.Math.ListN.{length}
 use Rattle.laws.specs.Among.{among, all, each}
 use Rattle.laws.specs.Tests.{or_left, or_right}
 use Rattle.mode.specs.declared.Mode.{Mode}
-use Rattle.record.specs.Record.{record_at, count}
+use Rattle.record.specs.Record.{record_at}
 use Rattle.grammar.specs.Kind.{RUN, LIST, NONE, TEXT, NUMBER}
 use Rattle.grammar.specs.Shape.{Class, one, list, one_or, small, ruled}
-use Rattle.grammar.specs.Grammar.{root}
 use Rattle.grammar.specs.Slots.{allowed}
 use Rattle.tree.specs.Check.{Place, place, holds, ChecksIn}
 use Rattle.tree.specs.declared.Answer.TheVariants.{Admitted}
@@ -38,7 +37,7 @@ as_measured m t x o v mm h p =
 -- ---- what the profile admits
 module _ {m : Mode} {t x : List ℕ} {v : Verdict} (p : ProfilesIn m t x v) (z : number_of v ≡ 0) where
   -- measure's outcome is 0, and no record breaks the profile
-  both : (render.number_of p.outcome ≡ 0) × ((v ≡ Measured p.outcome) × ((broken t).broken ≡ false))
+  pub both : (render.number_of p.outcome ≡ 0) × ((v ≡ Measured p.outcome) × ((broken t).broken ≡ false))
   unfolding profiled
   both = by (eqb (render.number_of p.outcome) 0) (broken t).broken refl refl p.answers
     where
@@ -107,7 +106,7 @@ keeps t i p h =
       shallow = ltb-false deepest p.depth (or_right run (ltb deepest p.depth) others);
     }
 
-all_keep : (t : List ℕ) (n i : ℕ) (ps : List Place) → (first_break t n i ps).broken ≡ false → Each (Keeps t) t n i ps
+pub all_keep : (t : List ℕ) (n i : ℕ) (ps : List Place) → (first_break t n i ps).broken ≡ false → Each (Keeps t) t n i ps
 unfolding first_break
 all_keep t zero i ps h = tt
 all_keep t (suc n) i [] h = tt
@@ -119,7 +118,3 @@ all_keep t (suc n) i (p ∷ ps) h =
         → ((first_break t n (i + 1) qs).broken ≡ false → Each (Keeps t) t n (i + 1) qs) → Keeps t i p × Each (Keeps t) t n (i + 1) qs
     by qs true q e rest = absurd (false≢true (sym e))
     by qs false q e rest = (keeps t i p q, rest e)
-
-pub keep_to_it : {m : Mode} {t x : List ℕ} {v : Verdict} → ProfilesIn m t x v → number_of v ≡ 0 → Each (Keeps t) t (count t) 0 (place 1 root ∷ [])
-unfolding broken
-keep_to_it {t = t} p z = all_keep t (count t) 0 (place 1 root ∷ []) (both p z).1.1

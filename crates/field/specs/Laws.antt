@@ -1,7 +1,7 @@
 -- From measure and the walk to the verdict; that no two verdicts satisfy the contract, and that a place is small.
-use Prim.Native.Nat.{ℕ, zero, suc, ◌+◌, ◌-◌, ◌^◌, ◌≤◌, ◌<◌}
+use Prim.Native.Nat.{ℕ, zero, suc, ◌+◌, ◌-◌, ◌≤◌, ◌<◌}
 use native.Mathlib.Omega.{arith}
-use Rattle.std.specs.Prelude.{◌≡◌, Bool, not, ◌&&◌, ltb, length, get_or}
+use Rattle.std.specs.Prelude.{◌≡◌, Bool, not, ◌&&◌, ltb, length}
 use Rattle.std.proofs.Math.Path.{refl}
 use Rattle.std.proofs.Common.{◌∙◌, ap, sym}
 use mathlib.Core.List.{List, [], ◌∷◌, ◌++◌, map}
@@ -26,10 +26,10 @@ use Rattle.tokens.specs.Tokens.{in_edition}
 use Rattle.admitted.proofs.Fills.{root_filled}
 use Rattle.render.specs.Render as render
 use Rattle.render.specs.Render.{refuses, measured, text_in, MeasuresIn}
-use Rattle.render.specs.Laws.{measures_unique, measures_small, number_small as outcome-small}
+use Rattle.render.specs.Laws.{measures_unique, number_small as outcome-small}
 use Rattle.render.specs.declared.Outcome.{Outcome}
 use Rattle.render.specs.declared.Outcome.TheVariants.{Done, Refused}
-use Rattle.field.specs.Profile.{takes_node, breaks, stopped, behind, first_break, broken, profiled, ProfilesIn, number_of, place_of}
+use Rattle.field.specs.Profile.{takes_node, breaks, stopped, behind, first_break, broken, profiled, ProfilesIn, number_of}
 use Rattle.field.specs.Nodes.{nodes_at}
 use Rattle.field.specs.Walk.{Sound, resumed, Led, Finds}
 use Rattle.field.specs.declared.Found.{Found}
@@ -150,7 +150,7 @@ number_small (Measured o) = outcome-small o
 number_small (Unfit i) = omega arith
 
 -- what breaks the profile is a record of the tree
-break_there : (t : List ℕ) (n i : ℕ) (ps : List Place) → (first_break t n i ps).at ≤ i + n
+pub break_there : (t : List ℕ) (n i : ℕ) (ps : List Place) → (first_break t n i ps).at ≤ i + n
 unfolding first_break
 break_there t zero i ps = omega arith
 break_there t (suc n) i [] = omega arith
@@ -161,14 +161,3 @@ break_there t (suc n) i (p ∷ ps) =
     by : (b : Bool) (w : Found) → w.at ≤ i + 1 + n → (cond b (stopped i) w).at ≤ i + suc n
     by true w h = omega arith
     by false w h = omega arith
-
-pub profiles_small : {m : Mode} {t x : List ℕ} {v : Verdict} → ((k : ℕ) → get_or t k 0 < 256) → ProfilesIn m t x v → place_of v < 2 ^ 32
-unfolding profiled broken
-profiles_small {m} {t} {x} {v} inBytes p = by (eqb (render.number_of p.outcome) 0) (broken t).broken refl p.answers
-  where
-    by : (a b : Bool) → eqb (render.number_of p.outcome) 0 ≡ a → v ≡ cond (not a) (Measured p.outcome) (cond b (Unfit (broken t).at) (Measured p.outcome)) → place_of v < 2 ^ 32
-    by true true q e =
-        let s = admitted_short (checked p.measures (eqb-true (render.number_of p.outcome) 0 q)) refl in
-        rw e (omega (arith, break_there t (count t) 0 (place 1 root ∷ []), s.0))
-    by true false q e = rw e (measures_small inBytes p.measures)
-    by false b q e = rw e (measures_small inBytes p.measures)

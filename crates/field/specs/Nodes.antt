@@ -18,9 +18,9 @@ use Rattle.grammar.specs.Grammar.{table, shape}
 use Rattle.grammar.specs.Slots.{slots_of, elements}
 use Rattle.grammar.specs.Packed.{each, turn}
 use Rattle.grammar.specs.Entries.{entries, entry}
-use Rattle.tree.specs.Check.{place, holds, fits}
+use Rattle.tree.specs.Check.{holds, fits}
 use Rattle.tree.specs.Steps.{kids_are}
-use Rattle.field.specs.Profile.{foreign, first_node, takes_node, deepest, breaks}
+use Rattle.field.specs.Profile.{foreign, first_node, takes_node, deepest}
 
 -- ---- the numbers
 unfoldable pub nodes_at : Class → ℕ
@@ -81,27 +81,12 @@ elements_are (one_or ks c) = half_told (nodes_at c) (not (all (λ k. ltb k first
 elements_are small = refl
 elements_are (ruled u) = refl
 
--- ---- so the test by numbers is that of the profile
-turned_round : (d r f : Bool) → (d || (r || f)) ≡ (f || (r || d))
-turned_round true true true = refl
-turned_round true true false = refl
-turned_round true false true = refl
-turned_round true false false = refl
-turned_round false true true = refl
-turned_round false true false = refl
-turned_round false false true = refl
-turned_round false false false = refl
-
-depthless : (left : ℕ) → eqb left 0 ≡ ltb deepest (25 - left)
+pub depthless : (left : ℕ) → eqb left 0 ≡ ltb deepest (25 - left)
 depthless left = by (eqb left 0) refl
   where
     by : (b : Bool) → eqb left 0 ≡ b → eqb left 0 ≡ ltb deepest (25 - left)
     by true e = let z = eqb-true left 0 e in e ∙ sym (lt-ltb deepest (25 - left) (omega arith))
     by false e = let z = eqb-false left 0 e in e ∙ sym (le-ltb deepest (25 - left) (omega arith))
-
-pub breaks_is : (t : List ℕ) (i : ℕ) (c : Class) (left : ℕ) → breaks_by t i (nodes_at c) left ≡ breaks t i (place (25 - left) c)
-unfolding breaks_by breaks
-breaks_is t i c left = rw (takes_is c, depthless left) (turned_round (ltb deepest (25 - left)) (eqb (record_at t i).kind RUN && takes_node c) (foreign t i))
 
 pub depth_left : (t : List ℕ) (i u left : ℕ) → breaks_by t i u left ≡ false → 1 ≤ left
 unfolding breaks_by

@@ -1,23 +1,19 @@
 -- The walk over an admitted tree. `Sound` says that the records from an index on fill their places, by the check's scan; so each of them fits its
 -- place, and the walk may go by its children. `Goes` says what the walk has come to so far: what is left to be looked at leads to the same first
 -- record that breaks the profile.
-use Prim.Native.Nat.{ℕ, suc, ◌+◌, ◌-◌, ◌%◌, ◌≤◌, ◌<◌}
+use Prim.Native.Nat.{ℕ, ◌-◌, ◌%◌, ◌≤◌, ◌<◌}
 use native.Mathlib.Omega.{arith}
-use Rattle.std.specs.Prelude.{◌≡◌, refl, List, [], ◌∷◌, ◌++◌, map, Bool, true, false, cond}
-use Rattle.std.proofs.Common.{◌∙◌, ap, sym}
-use Rattle.std.proofs.lemmas.Bool.{false≢true}
+use Rattle.std.specs.Prelude.{◌≡◌, refl, List, [], ◌∷◌, ◌++◌, map, false, cond}
 use Rattle.mode.specs.declared.Edition.TheVariants.{Crate}
-use Rattle.record.specs.Record.{record_at, count}
+use Rattle.record.specs.Record.{count}
 use Rattle.grammar.specs.Shape.{Class}
 use Rattle.grammar.specs.Packed.{turn}
-use Rattle.tree.specs.Check.{Place, place, holds, fits}
-use Rattle.tree.specs.Steps.{childless}
+use Rattle.tree.specs.Check.{Place, place}
 use Rattle.tree.specs.Walk.{refused}
 use Rattle.tokens.specs.Tokens.{in_edition}
 use Rattle.admitted.specs.Fills.{Fills}
-use Rattle.admitted.proofs.Fills.{fill}
-use Rattle.field.specs.Profile.{breaks, stopped, behind, first_break}
-use Rattle.field.specs.Nodes.{nodes_at, nodes_below, codes, breaks_by, breaks_is, depth_left, codes_below}
+use Rattle.field.specs.Profile.{behind, first_break}
+use Rattle.field.specs.Nodes.{nodes_at, codes}
 use Rattle.field.specs.declared.Found.{Found}
 
 -- the records of a tree from index i on fill these places, with some text
@@ -52,58 +48,13 @@ pub record Going (t : List ℕ) (i : ℕ) (ps : List Place) (left next u n : ℕ
   pub coded : map nodes_at classes ≡ codes u n
   pub goes : Goes t i ps (behind next) (map (place (25 - left)) classes)
 
--- ---- the ways of a walk
-module _ (t : List ℕ) where
-  pub start : (i : ℕ) (ps : List Place) → Goes t i ps (behind i) ps
-  unfolding resumed
-  start i ps = record { is = λ rest h. refl; on = λ rest h z. h }
-
-  below_sound : {ps : List Place} {i d : ℕ} {c : Class} → Sound t (place d c ∷ ps) i → Sound t (map (place (d + 1)) (holds c (record_at t i)) ++ ps) (i + 1)
-  below_sound s = record { text = s.text; fills = (fill s.fills).on; short = s.short }
-
-  module _ {i : ℕ} {ps : List Place} {j d : ℕ} {c : Class} {qs : List Place} (g : Goes t i ps (behind j) (place d c ∷ qs)) (b : Bool) (be : b ≡ breaks t j (place d c)) where
-    arrives : (rest : List Place) → Sound t (ps ++ rest) i → Sound t (place d c ∷ (qs ++ rest)) j
-    arrives rest s = g.on rest s refl
-
-    one_step : (rest : List Place) → Sound t (ps ++ rest) i
-        → first_break t (count t - j) j (place d c ∷ (qs ++ rest))
-        ≡ cond b (stopped j) (first_break t (count t - (j + 1)) (j + 1) (map (place (d + 1)) (holds c (record_at t j)) ++ (qs ++ rest)))
-    unfolding first_break
-    one_step rest s =
-        let l = (fill (arrives rest s).fills).there in
-        let n : count t - j ≡ suc (count t - (j + 1)) = omega arith in
-        rw (n, be)
-
-    -- the next record breaks the profile
-    stops : b ≡ true → Goes t i ps (stopped j) []
-    unfolding resumed
-    stops z = record { is = λ rest s. g.is rest s ∙ one_step rest s ∙ rw z; on = λ rest s y. absurd (false≢true (sym y)) }
-
-    -- or it does not, and all below it, which fits its place, come to w
-    passes : b ≡ false → {w : Found} → (fits c (record_at t j) ≡ true → Goes t (j + 1) (map (place (d + 1)) (holds c (record_at t j))) w []) → Goes t i ps w qs
-    unfolding resumed
-    passes z {w} below =
-        record {
-          is = λ rest s.
-              let a = arrives rest s in
-              g.is rest s ∙ one_step rest s ∙ rw z ((below (fill a.fills).fit).is (qs ++ rest) (below_sound a));
-          on = λ rest s. let a = arrives rest s in (below (fill a.fills).fit).on (qs ++ rest) (below_sound a);
-        }
-
 -- ---- the first place and the others
-record Split (cs : List Class) (u n : ℕ) : Type 0 where
-  class : Class
-  others : List Class
-  are : cs ≡ class ∷ others
-  first : nodes_at class ≡ u % 256
-  coded : map nodes_at others ≡ codes (turn u) (n - 1)
-
-split : (cs : List Class) (u n : ℕ) → map nodes_at cs ≡ codes u n → 0 < n → Split cs u n
-split cs u n e h = let z : n ≡ suc (n - 1) = omega arith in by cs (rw z at e)
-  where
-    by : (ds : List Class) → map nodes_at ds ≡ u % 256 ∷ codes (turn u) (n - 1) → Split ds u n
-    by [] q = let z : ◌≡◌ {A = ℕ} 0 1 = cc in absurd (omega arith)
-    by (d ∷ ds) q = record { class = d; others = ds; are = refl; first = cc; coded = cc }
+pub record Split (cs : List Class) (u n : ℕ) : Type 0 where
+  pub class : Class
+  pub others : List Class
+  pub are : cs ≡ class ∷ others
+  pub first : nodes_at class ≡ u % 256
+  pub coded : map nodes_at others ≡ codes (turn u) (n - 1)
 
 -- no place is left
 pub all_met : (t : List ℕ) (i : ℕ) (ps : List Place) (left next u n : ℕ) → n ≤ 0 → Going t i ps left next u n → Goes t i ps (behind next) []
@@ -112,79 +63,3 @@ all_met t i ps left next u n h g = let z : n ≡ 0 = omega arith in rw (none g.c
     none : (cs : List Class) → map nodes_at cs ≡ [] → cs ≡ []
     none [] q = refl
     none (c ∷ cs) q = let z : ◌≡◌ {A = ℕ} 0 1 = cc in absurd (omega arith)
-
--- ---- a turn of the loop, with some place left
-module _ {t : List ℕ} {i : ℕ} {ps : List Place} {left next u n : ℕ} (g : Going t i ps left next u n) (some : 0 < n) where
-  s : Split g.classes u n
-  s = split g.classes u n g.coded some
-
-  goes_here : Goes t i ps (behind next) (place (25 - left) s.class ∷ map (place (25 - left)) s.others)
-  goes_here = rw s.are at g.goes
-
-  few : nodes_at s.class < 256
-  few = omega (arith, s.first)
-
-  -- the record is there, and with depth left its children stand in the places below
-  module _ (rest : List Place) (sound : Sound t (ps ++ rest) i) where
-    here : Sound t (place (25 - left) s.class ∷ (map (place (25 - left)) s.others ++ rest)) next
-    here = goes_here.on rest sound refl
-
-    pub turn_there : (next < count t) × (count t < refused)
-    turn_there = ((fill here.fills).there, here.short)
-
-    pub turn_led : 1 ≤ left → left ≤ 24 → Led t (next + 1) (left - 1) (nodes_below (u % 256) (record_at t next).kind) (record_at t next).kids
-    turn_led l h =
-        let d : 25 - left + 1 ≡ 25 - (left - 1) = omega arith in
-        record {
-          classes = holds s.class (record_at t next);
-          coded = rw s.first at (codes_below s.class (record_at t next) few (fill here.fills).fit);
-          rest = map (place (25 - left)) s.others ++ rest;
-          sound = rw d at (below_sound t here);
-        }
-
-  module _ (b : Bool) (be : b ≡ breaks_by t next (u % 256) left) where
-    test_here : b ≡ breaks t next (place (25 - left) s.class)
-    test_here = be ∙ rw (sym s.first) (breaks_is t next s.class left)
-
-    pub turn_breaks : b ≡ true → Goes t i ps (stopped next) []
-    turn_breaks = stops t goes_here b test_here
-
-    pub turn_left : b ≡ false → 1 ≤ left
-    turn_left z = depth_left t next (u % 256) left (sym be ∙ z)
-
-    -- all below the record come to w
-    module _ (z : b ≡ false) {w : Found} (below : fits s.class (record_at t next) ≡ true → Goes t (next + 1) (map (place (25 - left + 1)) (holds s.class (record_at t next))) w []) where
-      on_all : Goes t i ps w (map (place (25 - left)) s.others)
-      on_all = passes t goes_here b test_here z below
-
-      turn_stopped : w.broken ≡ true → Goes t i ps w []
-      unfolding resumed
-      turn_stopped y =
-          record { is = λ rest q. rw y (rw y at (on_all.is rest q)); on = λ rest q e. absurd (false≢true (sym e ∙ y)) }
-
-      turn_past : w.broken ≡ false → Going t i ps left w.at (turn u) (n - 1)
-      turn_past y =
-          let e : behind w.at ≡ w = sym (ap (λ (k : Bool). record { broken = k; at = w.at }) y) in
-          record { classes = s.others; coded = s.coded; goes = rw e on_all }
-
-    -- by the walk below it
-    module _ (z : b ≡ false) (h : left ≤ 24) {w : Found} (found : Finds t (next + 1) (left - 1) (nodes_below (u % 256) (record_at t next).kind) (record_at t next).kids w) where
-      walked_below : fits s.class (record_at t next) ≡ true → Goes t (next + 1) (map (place (25 - left + 1)) (holds s.class (record_at t next))) w []
-      walked_below fe =
-          let l = turn_left z in
-          let d : 25 - left + 1 ≡ 25 - (left - 1) = omega arith in
-          rw d (found (holds s.class (record_at t next)) (rw s.first at (codes_below s.class (record_at t next) few fe)))
-
-      pub turn_found : w.broken ≡ true → Goes t i ps w []
-      turn_found = turn_stopped z walked_below
-
-      pub turn_on : w.broken ≡ false → Going t i ps left w.at (turn u) (n - 1)
-      turn_on = turn_past z walked_below
-
-    -- or since there is nothing below it
-    module _ (z : b ≡ false) (none : (record_at t next).kids ≡ 0) where
-      none_below : fits s.class (record_at t next) ≡ true → Goes t (next + 1) (map (place (25 - left + 1)) (holds s.class (record_at t next))) (behind (next + 1)) []
-      none_below fe = rw (childless s.class (record_at t next) fe none) (start t (next + 1) [])
-
-      pub turn_childless : Going t i ps left (next + 1) (turn u) (n - 1)
-      turn_childless = turn_past z none_below refl

@@ -2,7 +2,8 @@
 -- loop: what is left of it from here leads to the same first record that breaks the profile as all of it from the start (`Going`). A record breaks
 -- it, or it has nothing below it, or what is below it is walked.
 use native.Mathlib.Omega.{arith}
-use Rattle.field.specs.Walk.{start, all_met, turn_there, turn_led, turn_breaks, turn_left, turn_found, turn_on, turn_childless}
+use Rattle.field.specs.Walk.{all_met}
+use Rattle.field.proofs.Walk.{start, turn_there, turn_led, turn_breaks, turn_left, turn_found, turn_on, turn_childless}
 use Rattle.field.proofs.+profile_row.Goals.{then-r-ne0+else-found, else-r-ne0}
 use Rattle.field.proofs.+profile_row.Goals as goal
 

@@ -1,6 +1,6 @@
 -- `kinyandoma::profiles::kinyandoma_profile` meets its contract: a length fits the place of an answer, and so does a record.
 use native.Mathlib.Omega.{arith}
-use Rattle.field.specs.Laws.{profiles_small}
+use Rattle.field.proofs.Laws.{profiles_small}
 use borrow.Author.Rules.{rules}
 use Rattle.kinyandoma.proofs.profiles.kinyandoma_profile.Goals as goal
 
