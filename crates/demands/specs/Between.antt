@@ -183,6 +183,7 @@ pub part_between : {s : List ℕ} {p : Span} → Text s → Memᴰ p (parts s) �
 part_between {s} {p} t m = of_each (all_between t) m
   where
     of_each : {ps : List Span} → Each s ps → Memᴰ p ps → CutBetween s p
+    of_each no_more k = elim k [ ]
     of_each (also b e) (Memᴰ.head i) = rw i b
     of_each (also b e) (Memᴰ.tail k) = of_each e k
 

@@ -46,6 +46,7 @@ case_text : {c : Case} → Memᴰ c cases → text true c.0 ≡ c.1
 case_text {c} m = held cases cases_hold m
   where
     held : (cs : List Case) → map (λ (d : Case). text true d.0) cs ≡ map (λ (d : Case). d.1) cs → Memᴰ c cs → text true c.0 ≡ c.1
+    held [] h k = elim k [ ]
     held (d ∷ cs) h (Memᴰ.head i) = rw i (let z : text true d.0 ≡ d.1 = cc in z)
     held (d ∷ cs) h (Memᴰ.tail k) = held cs (let z : map (λ (b : Case). text true b.0) cs ≡ map (λ (b : Case). b.1) cs = cc in z) k
 

@@ -100,5 +100,6 @@ unfolding each_lendable
 case_lent {c} m = all_back c.0 (of_each cases computed m)
   where
     of_each : (cs : List Case) → each_lendable cs ≡ true → Memᴰ c cs → all_lendable c.0 ≡ true
+    of_each [] h k = elim k [ ]
     of_each (d ∷ cs) h (Memᴰ.head i) = rw i (and_left (all_lendable d.0) (each_lendable cs) h)
     of_each (d ∷ cs) h (Memᴰ.tail k) = of_each cs (and_right (all_lendable d.0) (each_lendable cs) h) k
