@@ -1,6 +1,6 @@
 -- What stands in the engine's buffer: after appends from a fresh record, and after render. The buffer begins with the text of the tokens
 -- (append/Lists, wire/Lists, render/Render), and of texts S1 to S12 (stream/Cases) and demand 3 (reading/Demand3) are proved.
-use Rattle.std.specs.Prelude.{ℕ, ◌+◌, ◌^◌, ◌≤◌, ◌<◌, ◌≡◌, Bool, true, false, cond, ltb, length, take, drop, replicate}
+use Rattle.std.specs.Prelude.{ℕ, ◌^◌, ◌<◌, ◌≡◌, Bool, true, false, cond, ltb, length, take, drop, replicate}
 use Rattle.std.proofs.Common.{arith, zero-add, ◌∙◌, ap, sym, take_at, eq-eqb}
 use Rattle.std.proofs.Math.Path.{refl}
 use mathlib.Core.List.{List, [], ◌∷◌, map, Memᴰ}
@@ -10,9 +10,8 @@ use Rattle.stream.specs.Stream.{text}
 use Rattle.stream.specs.Cases.{Case, cases, cases_hold}
 use Rattle.append.specs.declared.Stream.{Stream}
 use Rattle.position.specs.Position.{lines, column}
-use Rattle.append.specs.Lists.{Lent, tokens_of, AppendsAll, Held, appended, all_succeed}
+use Rattle.append.specs.Lists.{Lent, tokens_of, AppendsAll, appended}
 use Rattle.wire.specs.Wire.{unpacked}
-use Rattle.wire.specs.Lists.{CrossesAll, all_append}
 use Rattle.tree.specs.Check as tree
 use Rattle.tree.specs.declared.Answer.{Answer}
 use Rattle.tokens.specs.Tokens.{tokens_of as treeTokens}
@@ -25,7 +24,6 @@ use Rattle.kinyandoma.specs.Trees as Call
 use Rattle.reading.specs.Reading.{Lexed, Cuts}
 use Rattle.reading.specs.Readable.{Readable}
 use Rattle.reading.proofs.Demand3.{spellings, gives_back, never_shared, tree_gives_back}
-use Rattle.demands.specs.Lends.{lent, case_lent}
 
 -- a record from which nothing was written yet
 pub record Fresh (rec : Stream) : Type 0 where
@@ -38,11 +36,11 @@ pub record Fresh (rec : Stream) : Type 0 where
 abbrev pub fresh_bytes : List ℕ
 fresh_bytes = 1 ∷ replicate 24 0
 
-fresh_bytes_lem : Fresh (unpacked fresh_bytes)
+pub fresh_bytes_lem : Fresh (unpacked fresh_bytes)
 unfolding unpacked
 fresh_bytes_lem = record { spaced = refl; count = refl; line = refl; column = refl }
 
-case_text : {c : Case} → Memᴰ c cases → text true c.0 ≡ c.1
+pub case_text : {c : Case} → Memᴰ c cases → text true c.0 ≡ c.1
 case_text {c} m = held cases cases_hold m
   where
     held : (cs : List Case) → map (λ (d : Case). text true d.0) cs ≡ map (λ (d : Case). d.1) cs → Memᴰ c cs → text true c.0 ≡ c.1
@@ -80,33 +78,6 @@ pub appended_never_shared : {rec₁ rec₂ rec₁' rec₂' : Stream} {out₁ out
     → take rec₁'.count out₁' ≡ take rec₂'.count out₂' → spellings lx₁ ≡ spellings lx₂
 appended_never_shared {ls₁ = ls₁} {ls₂ = ls₂} {lx₁ = lx₁} {lx₂ = lx₂} f g x y r s e =
     never_shared (tokens_of ls₁) (tokens_of ls₂) lx₁ lx₂ r s (sym (appended_text f x) ∙ e ∙ appended_text g y)
-
--- and the tokens of each case are appended, wherever there is room for its bytes
-pub cases_appended : {rec : Stream} {c : Case} → Fresh rec → Memᴰ c cases → (out : List ℕ) → length c.1 ≤ length out
-    → (rec' : Stream) × (out' : List ℕ) × AppendsAll rec out (lent c.0) rec' out' × (take rec'.count out' ≡ c.1)
-cases_appended {rec} {c} f m out room =
-    let l = case_lent m in
-    let n : rec.count + length (text rec.spaced (tokens_of (lent c.0))) ≤ length out = rw (f.spaced, f.count, l.0, case_text m, zero-add) room in
-    let h : Held rec = record { line = omega (arith, f.line); column = omega (arith, f.column) } in
-    let a = all_succeed rec out h l.1 n in
-    (a.0, a.1, a.2, appended_case f a.2 m l.0)
-
--- ---- the same of kinyandoma_append, from the bytes of a fresh record, where all answers are below 2^32
-module _ {out : List ℕ} {ls : List Lent} {r' out' : List ℕ} (all : CrossesAll fresh_bytes out ls r' out') (fits : length out < 2 ^ 64) where
-  pub crossed_text : take (unpacked r').count out' ≡ text true (tokens_of ls)
-  crossed_text = appended_text fresh_bytes_lem (all_append all fits)
-
-  pub crossed_line : (unpacked r').line ≡ lines (take (unpacked r').count out')
-  crossed_line = appended_line fresh_bytes_lem (all_append all fits)
-
-  pub crossed_column : (unpacked r').column ≡ column 0 (take (unpacked r').count out')
-  crossed_column = appended_column fresh_bytes_lem (all_append all fits)
-
-  pub crossed_reads_back : {lexemes : List Lexed} → Readable (tokens_of ls) lexemes → Cuts (take (unpacked r').count out') lexemes []
-  crossed_reads_back r = appended_reads_back fresh_bytes_lem (all_append all fits) r
-
-  pub crossed_case : {c : Case} → Memᴰ c cases → tokens_of ls ≡ c.0 → take (unpacked r').count out' ≡ c.1
-  crossed_case m e = appended_case fresh_bytes_lem (all_append all fits) m e
 
 -- ---- render in any mode, where its number is 0
 module _ {m : Mode} {t x out : List ℕ} {o : Outcome} {out' : List ℕ} (renders : RendersIn m t x out o out') (success : number_of o ≡ 0) where

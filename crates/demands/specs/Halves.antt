@@ -1,16 +1,16 @@
 -- 02, x: two halves make a whole. A script may be split between calls at any token, if the record and the output that a call leaves are handed to the next:
 -- the bytes and the end state (bit, count, line, column) are those of one list. From a record with the other bit the text differs by one space at most.
-use Rattle.std.specs.Prelude.{ℕ, suc, ◌+◌, ◌^◌, ◌≤◌, ◌<◌, ◌≡◌, refl, List, [], ◌∷◌, ◌++◌, map, Bool, true, false, not, cond, ◌&&◌, eqb, length, take, drop}
+use Rattle.std.specs.Prelude.{ℕ, suc, ◌+◌, ◌^◌, ◌≤◌, ◌<◌, ◌≡◌, refl, List, [], ◌∷◌, ◌++◌, Bool, true, false, not, cond, ◌&&◌, eqb, length, take, drop}
 use Rattle.std.proofs.Common.{arith, ◌∙◌, ap, sym, append_assoc, length-append}
 use Rattle.std.proofs.lemmas.Bool.{eqb-false, not-true}
-use Rattle.laws.specs.Among.{among, all, each}
+use Rattle.laws.specs.Among.{all, each}
 use Rattle.laws.specs.Below.{below}
 use Rattle.laws.specs.Bytes.{same}
 use Rattle.laws.specs.Text.{ascii}
 use Rattle.blank.specs.Blank.{blank, all_blank}
 use Rattle.spelling.specs.Rows.{rows}
 use Rattle.spelling.specs.Spelling.{row, spelling}
-use Rattle.spelling.specs.Token.{TK_SEMI, TK_RP, TK_COMMA, TK_DOT, TK_BLOB, TK_LBRACKET, TK_RBRACKET}
+use Rattle.spelling.specs.Token.{TK_SEMI, TK_RP, TK_COMMA, TK_DOT, TK_LBRACKET, TK_RBRACKET}
 use Rattle.stream.specs.Stream.{Token, tight, opens, gap, gapped, blob, spelled_bit, written, valued_bit, added, left, adds, leaves, text, bit}
 use Rattle.stream.specs.Shapes.{spelled_no_blob, opened}
 use Rattle.stream.specs.Cases.{Case, cases}

@@ -1,18 +1,15 @@
 -- The tokens of S1 to S12 can be lent to append, and no refusal but 8 fits any of them: one test that is computed over all of them.
-use Rattle.std.specs.Prelude.{ℕ, ◌+◌, ◌%◌, ◌<◌, ◌≡◌, refl, Bool, true, ◌&&◌, ltb, leb, length}
-use Rattle.std.proofs.Common.{arith, ap₂}
-use mathlib.Core.List.{List, [], ◌∷◌, map, Memᴰ}
+use Rattle.std.specs.Prelude.{ℕ, ◌+◌, ◌%◌, ◌<◌, ◌≡◌, Bool, true, ◌&&◌, ltb, leb, length}
+use Rattle.std.proofs.Common.{arith}
+use mathlib.Core.List.{List, [], ◌∷◌, map}
 use borrow.Author.Tests.{ltb-true, leb-true, le-leb, lt-leb}
 use Rattle.laws.specs.Tests.{and_left, and_right}
 use Rattle.laws.specs.Among.{all}
 use Rattle.utf8.specs.Rfc3629.{Text, none as no_text, more, one}
-use Rattle.spelling.specs.Rows.{rows}
-use Rattle.spelling.specs.Spelling.{row, known}
+use Rattle.spelling.specs.Spelling.{known}
 use Rattle.stream.specs.Stream.{Token, Value, none, some}
-use Rattle.stream.specs.Cases.{Case, cases}
 use Rattle.append.specs.Append.{number_of, present, token_of, longest}
-use Rattle.append.specs.Lists.{Lent, tokens_of, Fine, AllFine}
-use Rattle.append.specs.Lists.{none as none-fine, one as one-fine}
+use Rattle.append.specs.Lists.{Lent, Fine}
 
 -- a token as it is lent: bit 15 says that a value is present
 abbrev pub lent_as : ℕ → Value → Lent
@@ -23,7 +20,7 @@ abbrev pub lent : List Token → List Lent
 lent ts = map (λ t. lent_as t.kind t.value) ts
 
 -- characters of one byte each, controls among them
-low : List ℕ → Bool
+unfoldable pub low : List ℕ → Bool
 low v = all (λ b. ltb b 0x80) v
 
 low_text : (v : List ℕ) → low v ≡ true → Text v
@@ -33,20 +30,8 @@ low_text (x ∷ v) t =
     let below = ltb-true x 0x80 (and_left (ltb x 0x80) (low v) t) in
     more (one {a = x} (record { low = omega arith; high = omega arith })) (low_text v (and_right (ltb x 0x80) (low v) t))
 
-lendable : ℕ → List ℕ → Bool
+unfoldable pub lendable : ℕ → List ℕ → Bool
 lendable k v = (ltb k 0x8000 && known k) && (leb (length v) longest && low v)
-
-all_lendable : List Token → Bool
-all_lendable [] = true
-all_lendable (t ∷ ts) = lendable t.kind (lent_as t.kind t.value).1 && all_lendable ts
-
-each_lendable : List Case → Bool
-each_lendable [] = true
-each_lendable (c ∷ cs) = all_lendable c.0 && each_lendable cs
-
-computed : each_lendable cases ≡ true
-unfolding each_lendable all_lendable lendable low cases known row rows
-computed = refl
 
 -- it is lent as itself
 module _ (k : ℕ) (v : List ℕ) (h : lendable k v ≡ true) where
@@ -71,7 +56,7 @@ module _ (k : ℕ) (v : List ℕ) (h : lendable k v ≡ true) where
         valid = low_text v (and_right (leb (length v) longest) (low v) value_right);
       }
 
-one_back : (k : ℕ) (v : Value) → lendable k (lent_as k v).1 ≡ true
+pub one_back : (k : ℕ) (v : Value) → lendable k (lent_as k v).1 ≡ true
     → (token_of (lent_as k v).0 (lent_as k v).1 ≡ record { kind = k; value = v }) × Fine (lent_as k v)
 unfolding token_of number_of present
 one_back k none h =
@@ -84,22 +69,3 @@ one_back k (some v) h =
     let n : w % 0x8000 ≡ k = omega arith in
     let p = le-leb 0x8000 w (omega arith) in
     (rw (n, p), fine k v h w n (λ l. p))
-
-all_back : (ts : List Token) → all_lendable ts ≡ true → (tokens_of (lent ts) ≡ ts) × AllFine (lent ts)
-unfolding all_lendable
-all_back [] h = (refl, none-fine)
-all_back (t ∷ ts) h =
-    let b = lendable t.kind (lent_as t.kind t.value).1 in
-    let o = one_back t.kind t.value (and_left b (all_lendable ts) h) in
-    let r = all_back ts (and_right b (all_lendable ts) h) in
-    (ap₂ (λ (x : Token) (xs : List Token). x ∷ xs) o.0 r.0, one-fine o.1 r.1)
-
--- the tokens of a case, lent, are those tokens, and none of them is refused
-pub case_lent : {c : Case} → Memᴰ c cases → (tokens_of (lent c.0) ≡ c.0) × AllFine (lent c.0)
-unfolding each_lendable
-case_lent {c} m = all_back c.0 (of_each cases computed m)
-  where
-    of_each : (cs : List Case) → each_lendable cs ≡ true → Memᴰ c cs → all_lendable c.0 ≡ true
-    of_each [] h k = elim k [ ]
-    of_each (d ∷ cs) h (Memᴰ.head i) = rw i (and_left (all_lendable d.0) (each_lendable cs) h)
-    of_each (d ∷ cs) h (Memᴰ.tail k) = of_each cs (and_right (all_lendable d.0) (each_lendable cs) h) k

@@ -4,7 +4,6 @@
 use Rattle.std.specs.Prelude.{ℕ, zero, suc, ◌+◌, ◌<◌, ◌≡◌, refl, List, [], ◌∷◌, ◌++◌, Bool, true, false, not, cond, eqb, length}
 use Rattle.std.proofs.Common.{arith, ◌∙◌, ap, ap₂, sym, leb→le, eqb-true}
 use Rattle.std.proofs.lemmas.Bool.{false≢true, eqb-false}
-use Rattle.laws.specs.First.{first}
 use Rattle.laws.specs.Little.{little}
 use Rattle.laws.specs.Text.{ascii}
 use Rattle.mode.specs.declared.Edition.TheVariants.{Crate}
@@ -24,7 +23,6 @@ use Rattle.grammar.specs.Kind.{TOKEN, RUN}
 use Rattle.grammar.specs.Grammar.{shape}
 use Rattle.grammar.specs.Slots.{allowed}
 use Rattle.tokens.specs.Tokens.{behind, token_of, rows, placed, means, node, whole, tokens_of, text_of}
-use Rattle.tree.specs.Check as tree
 use Rattle.tree.specs.Check.{has_part, malformed, answer_in, ChecksIn, number_of}
 use Rattle.tree.specs.Whole as whole
 use Rattle.tree.specs.declared.Answer.{Answer}
