@@ -4,19 +4,18 @@ use Rattle.std.proofs.Common.{arith, ◌∙◌, sym, zero-add, suc-ne-zero}
 use Rattle.std.proofs.Math.Path.{ap}
 use Rattle.std.proofs.Math.Bool.{and-false}
 use Rattle.std.proofs.Math.ListN.{length}
-use Rattle.std.proofs.Math.Seq.{sets-eq}
 use borrow.Author.Tests.{lt-ltb, le-ltb, ltb-true, ltb-false, eq-eqb, ne_eqb}
 use Rattle.utf8.specs.Rfc3629 as utf8
 use Rattle.utf8.specs.Rfc3629.{Text, none, Encoded}
 use Rattle.utf8.specs.Laws as utf8laws
 use Rattle.utf8.specs.Laws.{encoded_unique, place_within}
-use Rattle.utf8.specs.Decided.{decided}
+use Rattle.utf8.proofs.Decided.{decided}
 use Rattle.utf8.specs.declared.Encoding.{Encoding}
 use Rattle.utf8.specs.declared.Encoding.TheVariants.{Valid}
 use Rattle.spelling.specs.Spelling.{known, spelling}
 use Rattle.laws.specs.Tests.{or_left, or_right}
 use Rattle.laws.specs.First.{first, within, first_some, first_none, all_passed}
-use Rattle.stream.specs.Stream.{added, adds, leaves}
+use Rattle.stream.specs.Stream.{added, adds}
 use Rattle.stream.specs.Sink.{State, most, pour, mark, step, given}
 use Rattle.stream.specs.Laws.{count_fits}
 use Rattle.stream.specs.Length.{longest_token, adds_length, given_size}
@@ -25,9 +24,8 @@ use Rattle.append.specs.declared.Answer.{Answer}
 use Rattle.append.specs.declared.Answer.TheVariants.{Added, Malformed, Unknown, TooLong, Broken, NoRoom}
 use Rattle.append.specs.declared.Check.{Check}
 use Rattle.append.specs.declared.Check.TheVariants.{Fine, Refused}
-use Rattle.append.specs.Ends.{token_lines, token_column, token_longer}
 use Rattle.append.specs.Append.{Appends, number_of, present, token_of, news, longest, broken, unsound, before, room, answer_to, record_after, output_after, number, place}
-use Rattle.append.specs.Steps.{Checks, Ample, room_test, and_room, Verdict, Writes, emitted, counted, moved_to, Ready}
+use Rattle.append.specs.Steps.{Checks, Ample, room_test, and_room, Verdict, Writes, emitted, counted}
 
 -- no bytes are a text
 no_bytes : (v : List ℕ) → length v ≡ 0 → Text v
@@ -146,58 +144,11 @@ unfolding room record_after output_after
 no_room rec out token value n e h =
     record { answers = rw (← e, lt-ltb (length out - rec.count) n h); leave = refl; writes = refl }
 
--- ---- the bytes behind the count
-module _ (rec : Stream) (out : List ℕ) (token : ℕ) (word value : List ℕ) (x : State) (ready : Ready rec out token word value) (held : length out ≤ most)
-    (emits : x ≡ emitted rec.spaced rec.count out token word value) where
-  sound : Sound rec (length out)
-  sound = is_sound rec (length out) ready.sound
-
-  put_state : x ≡ emitted rec.spaced rec.count out token (spelling (number_of token)) value
-  put_state = rw ready.spells at emits
-
-  pub put_counts : x.0.at ≡ rec.count + length (news rec token value)
-  unfolding emitted step mark pour news adds token_of
-  put_counts =
-      let fits = ready.fits in
-      let within = sound.within in
-      ap (λ (s : State). s.0.at) put_state ∙ count_fits rec.count (length (news rec token value)) (omega arith)
-
-  -- what is asked of the record before it is moved on
-  pub put_moves : (rec.count ≤ x.0.at) × ((rec.line ≤ rec.count) × ((rec.column ≤ rec.count) × (length value ≤ x.0.at - rec.count)))
-  unfolding news
-  put_moves = (omega (arith, put_counts), (sound.line, (sound.column, omega (arith, put_counts, token_longer rec.spaced token value ready.lent))))
-
-  left_is : moved_to rec x.0 value ≡ record_after (Added (length (news rec token value))) rec token value
-  unfolding moved_to record_after emitted step mark pour news adds leaves token_of
-  left_is =
-      let n = length (news rec token value) in
-      let d : x.0.at - rec.count ≡ n = omega (arith, put_counts) in
-      rw (
-        d,
-        put_counts,
-        ap (λ (s : State). s.0.spaced) put_state,
-        token_lines rec.spaced token value ready.lent,
-        token_column rec.spaced token value ready.lent rec.column,
-      )
-
-  pub put_all : (left : Stream) → left ≡ moved_to rec x.0 value → Writes rec out token value (Added (x.0.at - rec.count)) left x.1
-  unfolding room output_after emitted step mark pour news adds token_of
-  put_all left e =
-      let new = news rec token value in
-      let n : x.0.at - rec.count ≡ length new = omega (arith, put_counts) in
-      let fits = ready.fits in
-      let within = sound.within in
-      record {
-        answers = rw (n, le-ltb (length out - rec.count) (length new) fits);
-        leave = rw n (e ∙ left_is);
-        writes = rw n (ap (λ (s : State). s.1) put_state ∙ sets-eq new out rec.count (omega arith));
-      }
-
 -- ---- the first fitting refusal, and where there is none
 same_refusal : (a b : Answer) → Refused a ≡ Refused b → a ≡ b
 same_refusal a b e = cc
 
-not_fine : (a : Answer) → Refused a ≡ Fine → ⊥
+pub not_fine : (a : Answer) → Refused a ≡ Fine → ⊥
 not_fine a e = let z : ◌≡◌ {A = ℕ} 0 1 = cc in omega arith
 
 -- a refusal leaves all as it was
@@ -240,7 +191,7 @@ accepted rec out token value r a rec' out' c e w =
     record { encoding = k; encoded = c.encoded; answers = w.answers ∙ sym f; leave = w.leave; writes = w.writes }
 
 -- none of them fits
-passed : (rec : Stream) (size token : ℕ) (value : List ℕ) (r : Check) → Checks rec size token value r → r ≡ Fine
+pub passed : (rec : Stream) (size token : ℕ) (value : List ℕ) (r : Check) → Checks rec size token value r → r ≡ Fine
     → (unsound rec size ≡ false) × (not (present token) && ltb 0 (length value) ≡ false)
 unfolding before
 passed rec size token value r c e =
@@ -281,7 +232,7 @@ all_refused rec out token value r a v e = by v.early v.checks v.is
     by Fine c is = tested rec out token value r a c is e
 
 -- none fits
-none_fits : (rec : Stream) (size token : ℕ) (value : List ℕ) (r : Check) → Verdict rec size token value r → r ≡ Fine
+pub none_fits : (rec : Stream) (size token : ℕ) (value : List ℕ) (r : Check) → Verdict rec size token value r → r ≡ Fine
     → Checks rec size token value Fine × (Fine ≡ room_test rec size (length (news rec token value)))
 none_fits rec size token value r v e = by v.early v.checks v.is
   where
@@ -289,20 +240,6 @@ none_fits rec size token value r v e = by v.early v.checks v.is
         → Checks rec size token value Fine × (Fine ≡ room_test rec size (length (news rec token value)))
     by (Refused b) c is = absurd (not_fine b (sym is ∙ e))
     by Fine c is = (c, sym e ∙ is)
-
-pub all_ready : (rec : Stream) (out : List ℕ) (token : ℕ) (word value : List ℕ) (r : Check) → word ≡ spelling (number_of token) → Verdict rec (length out) token value r → r ≡ Fine
-    → Ready rec out token word value
-all_ready rec out token word value r w v e =
-    let f = none_fits rec (length out) token value r v e in
-    let p = passed rec (length out) token value Fine f.0 refl in
-    record { sound = p.0; spells = w; lent = p.1; fits = by (ltb (length out - rec.count) n) refl f.1 }
-  where
-    n : ℕ
-    n = length (news rec token value)
-
-    by : (b : Bool) → ltb (length out - rec.count) n ≡ b → Fine ≡ first ((b, Refused (NoRoom n)) ∷ []) Fine → n ≤ length out - rec.count
-    by true t q = absurd (not_fine (NoRoom n) (sym q))
-    by false t q = ltb-false (length out - rec.count) n t
 
 pub all_accepted : (rec : Stream) (out : List ℕ) (token : ℕ) (value : List ℕ) (r : Check) (a : Answer) (rec' : Stream) (out' : List ℕ)
     → Verdict rec (length out) token value r → r ≡ Fine → Writes rec out token value a rec' out' → Appends rec out token value a rec' out'

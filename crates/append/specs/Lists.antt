@@ -2,21 +2,21 @@
 -- Each append takes up where the one before left off, so the bytes are those of `text` from the record's bit on, behind what stood there, and the
 -- bit is theirs, and so are the lines and the column that they end in.
 use Rattle.std.specs.Prelude.{ℕ, ◌+◌, ◌-◌, ◌≤◌, ◌<◌, ◌≡◌, refl, List, [], ◌∷◌, ◌++◌, map, Bool, true, false, not, cond, ◌&&◌, ltb, eqb, length, take, drop}
-use Rattle.std.proofs.Common.{arith, add-zero, ◌∙◌, ap, sym, append-nil, append_assoc, length-append, length-drop, take-append-drop, length-take-le, take_at, drop-drop, le-ltb, ltb-true, ltb-false}
+use Rattle.std.proofs.Common.{arith, ◌∙◌, ap, sym, append_assoc, length-append, length-drop, length-take-le, take_at, drop-drop, ltb-false}
 use Rattle.std.proofs.Math.Seq.{drop-append-add}
 use Rattle.std.proofs.lemmas.Bool.{eqb-false}
 use Rattle.utf8.specs.Rfc3629 as utf8
 use Rattle.utf8.specs.Rfc3629.{Text}
 use Rattle.utf8.specs.declared.Encoding.{Encoding}
-use Rattle.utf8.specs.declared.Encoding.TheVariants.{Valid}
 use Rattle.spelling.specs.Spelling.{known}
 use Rattle.stream.specs.Stream.{Token, adds, leaves, text, bit}
 use Rattle.append.specs.declared.Stream.{Stream}
 use Rattle.append.specs.declared.Answer.{Answer}
 use Rattle.append.specs.declared.Answer.TheVariants.{Added, Malformed, Unknown, TooLong, Broken, NoRoom}
 use Rattle.position.specs.Position.{lines, column}
-use Rattle.position.specs.Laws.{lines_append, column_append, lines_length, column_length}
-use Rattle.append.specs.Laws.{is_sound, sound_is}
+use Rattle.position.specs.Laws.{lines_length}
+use Rattle.position.proofs.Laws.{column_length}
+use Rattle.append.specs.Laws.{is_sound}
 use Rattle.append.specs.Append.{Appends, number_of, present, token_of, news, longest, broken, unsound, before, room, answer_to, record_after, output_after, number}
 
 -- a token word and value bytes, as they are lent
@@ -126,33 +126,12 @@ module _ (out a : List ℕ) (k : ℕ) (fits : k + length a ≤ length out) where
   put_length = omega (arith, length-append (take k out ++ a) (drop (k + length a) out), head_length, length-drop (k + length a) out)
 
   -- and then others behind them
-  put_both : (b : List ℕ) → take (k + length a) (put out a k) ++ b ++ drop (k + length a + length b) (put out a k) ≡ take k out ++ (a ++ b) ++ drop (k + length a + length b) out
+  pub put_both : (b : List ℕ) → take (k + length a) (put out a k) ++ b ++ drop (k + length a + length b) (put out a k) ≡ take k out ++ (a ++ b) ++ drop (k + length a + length b) out
   put_both b = rw (put_take, put_drop (length b), append_assoc (take k out) a b)
 
 -- ---- a list of appends
 pub output_length : {rec : Stream} {out : List ℕ} {t : Token} {rec' : Stream} {out' : List ℕ} → Succeeds rec out t rec' out' → length out' ≡ length out
 output_length {rec} {out} {t} s = rw (s.writes, s.count) (put_length out (adds rec.spaced t) rec.count (omega (arith, s.fits, s.count)))
-
-pub appended : {rec : Stream} {out : List ℕ} {ls : List Lent} {rec' : Stream} {out' : List ℕ} → AppendsAll rec out ls rec' out' → Appended rec out (tokens_of ls) rec' out'
-unfolding text bit lines column
-appended {rec} {out} none = record { spaced = refl; count = sym (add-zero rec.count); line = sym (add-zero rec.line); column = refl; writes = rw append-nil (sym (take-append-drop rec.count out)) }
-appended {rec} {out} {rec' = rec'} (one {mid = mid} {o = o} {l = l} {ls = ls} x xs) =
-    let s = succeeds x in
-    let r = appended xs in
-    let t = token_of l.0 l.1 in
-    let a = adds rec.spaced t in
-    let b = text (leaves rec.spaced t) (tokens_of ls) in
-    let fits : rec.count + length a ≤ length out = omega (arith, s.fits, s.count) in
-    let count : rec'.count ≡ rec.count + length a + length b = r.count ∙ rw (s.spaced, s.count) in
-    let line : rec'.line ≡ rec.line + lines a + lines b = r.line ∙ rw (s.spaced, s.line) in
-    let col : rec'.column ≡ column (column rec.column a) b = r.column ∙ rw (s.spaced, s.column) in
-    record {
-      spaced = r.spaced ∙ ap (λ (c : Bool). bit c (tokens_of ls)) s.spaced;
-      count = omega (arith, count, length-append a b);
-      line = omega (arith, line, lines_append a b);
-      column = col ∙ sym (column_append rec.column a b);
-      writes = r.writes ∙ rw (count, s.spaced, s.writes, s.count) (put_both out a rec.count fits b);
-    }
 
 -- ---- where no refusal fits
 -- "unknown token", "value bytes without a value", "over 65,536 bytes", "not UTF-8": none of them
@@ -166,14 +145,6 @@ pub data AllFine : List Lent → Type 0 where
   none : AllFine []
   one : {l : Lent} {ls : List Lent} → Fine l → AllFine ls → AllFine (l ∷ ls)
 
-no_stray : (p : Bool) (n : ℕ) → (0 < n → p ≡ true) → not p && ltb 0 n ≡ false
-no_stray true n h = refl
-no_stray false n h = by (ltb 0 n) refl
-  where
-    by : (b : Bool) → ltb 0 n ≡ b → b ≡ false
-    by true e = sym (h (ltb-true 0 n e))
-    by false e = refl
-
 -- what succeeds leaves such a record again
 pub held_on : {rec : Stream} {out : List ℕ} {t : Token} {rec' : Stream} {out' : List ℕ} → Succeeds rec out t rec' out' → Held rec'
 held_on {rec} {t = t} s =
@@ -182,29 +153,3 @@ held_on {rec} {t = t} s =
       line = omega (arith, s.was.line, s.line, s.count, lines_length n);
       column = omega (arith, s.was.column, s.column, s.count, column_length rec.column n);
     }
-
-added : (rec : Stream) (out : List ℕ) (l : Lent) → Held rec → Fine l → rec.count + length (news rec l.0 l.1) ≤ length out
-    → let a = Added (length (news rec l.0 l.1)) in Appends rec out l.0 l.1 a (record_after a rec l.0 l.1) (output_after a rec out l.0 l.1)
-unfolding answer_to before room broken
-added rec out l h f fits =
-    let n = length (news rec l.0 l.1) in
-    record {
-      encoding = Valid;
-      encoded = f.valid;
-      answers = rw (sound_is rec (length out) (record { within = omega arith; line = h.line; column = h.column }), f.spelled, no_stray (present l.0) (length l.1) f.lent, le-ltb longest (length l.1) f.short, le-ltb (length out - rec.count) n (omega arith));
-      leave = refl;
-      writes = refl;
-    }
-
--- and room for the whole text: all of them succeed
-pub all_succeed : (rec : Stream) (out : List ℕ) {ls : List Lent} → Held rec → AllFine ls → rec.count + length (text_from rec ls) ≤ length out
-    → (rec' : Stream) × (out' : List ℕ) × AppendsAll rec out ls rec' out'
-unfolding text news record_after
-all_succeed rec out h none fits = (rec, out, none)
-all_succeed rec out h (one {l = l} {ls = ls} f fs) fits =
-    let t = token_of l.0 l.1 in
-    let room = length-append (adds rec.spaced t) (text (leaves rec.spaced t) (tokens_of ls)) in
-    let x = added rec out l h f (omega arith) in
-    let a = Added (length (adds rec.spaced t)) in
-    let rest = all_succeed (record_after a rec l.0 l.1) (output_after a rec out l.0 l.1) (held_on (succeeds x)) fs (omega (arith, output_length (succeeds x))) in
-    (rest.0, rest.1, one x rest.2)

@@ -7,7 +7,8 @@ use Rattle.stream.specs.Stream.{text}
 use Rattle.stream.specs.Cases.{Case, cases}
 use Rattle.append.specs.declared.Stream.{Stream}
 use Rattle.position.specs.Position.{lines, column}
-use Rattle.append.specs.Lists.{Lent, tokens_of, AppendsAll, Held, all_succeed}
+use Rattle.append.specs.Lists.{Lent, tokens_of, AppendsAll, Held}
+use Rattle.append.proofs.Lists.{all_succeed}
 use Rattle.wire.specs.Wire.{unpacked}
 use Rattle.wire.specs.Lists.{CrossesAll, all_append}
 use Rattle.reading.specs.Reading.{Lexed, Cuts}

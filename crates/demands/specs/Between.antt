@@ -12,8 +12,10 @@ use Rattle.laws.specs.Tests.{and_left, and_right}
 use Rattle.utf8.specs.Rfc3629.{In, Tail, Char, one, two, three_E0, three_E1, three_ED, three_EE, four_F0, four_F1, four_F4, Text, none, more}
 use Rattle.utf8.specs.Scan.{ones, low, high, width, counted}
 use Rattle.utf8.specs.Scan.{two as two', three as three', four as four'}
-use Rattle.utf8.specs.Characters.{width_starts, char_length, char_prefix, char_lead}
-use Rattle.utf8.specs.Laws.{text_append, text_char, text_rest}
+use Rattle.utf8.specs.Characters.{width_starts, char_length, char_lead}
+use Rattle.utf8.proofs.Characters.{char_prefix}
+use Rattle.utf8.specs.Laws.{text_append, text_char}
+use Rattle.utf8.proofs.Laws.{text_rest}
 use Rattle.white.specs.White.{white_space, encode, begins, length_among, white_length}
 use Rattle.white.specs.Parts.{Span, span, marks, closed, runs, parts, second, split_of}
 

@@ -10,7 +10,8 @@ use Rattle.stream.specs.Stream.{text}
 use Rattle.stream.specs.Cases.{Case, cases, cases_hold}
 use Rattle.append.specs.declared.Stream.{Stream}
 use Rattle.position.specs.Position.{lines, column}
-use Rattle.append.specs.Lists.{Lent, tokens_of, AppendsAll, appended}
+use Rattle.append.specs.Lists.{Lent, tokens_of, AppendsAll}
+use Rattle.append.proofs.Lists.{appended}
 use Rattle.wire.specs.Wire.{unpacked}
 use Rattle.tree.specs.Check as tree
 use Rattle.tree.specs.declared.Answer.{Answer}

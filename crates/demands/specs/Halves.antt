@@ -16,7 +16,8 @@ use Rattle.stream.specs.Shapes.{spelled_no_blob, opened}
 use Rattle.stream.specs.Cases.{Case, cases}
 use Rattle.append.specs.declared.Stream.{Stream}
 use Rattle.append.specs.Laws.{unique}
-use Rattle.append.specs.Lists.{Lent, tokens_of, text_from, AppendsAll, AllFine, Held, held_on, succeeds, output_length, appended, all_succeed}
+use Rattle.append.specs.Lists.{Lent, tokens_of, text_from, AppendsAll, AllFine, Held, held_on, succeeds, output_length}
+use Rattle.append.proofs.Lists.{appended, all_succeed}
 use Rattle.append.specs.Lists.{none as no-append, one as one-append}
 use Rattle.wire.specs.Wire.{well_formed, unpacked}
 use Rattle.wire.specs.Laws.{unique as unique-call}

@@ -11,8 +11,9 @@ use Rattle.mode.specs.declared.Mode.{Mode}
 use Rattle.utf8.specs.Rfc3629 as utf8
 use Rattle.utf8.specs.Rfc3629.{Text, In, one}
 use Rattle.utf8.specs.Scan.{ones, counted, width}
-use Rattle.utf8.specs.Characters.{width_none}
-use Rattle.utf8.specs.Laws.{text_char, text_rest, text_first, number_text}
+use Rattle.utf8.proofs.Characters.{width_none}
+use Rattle.utf8.specs.Laws.{text_char, text_first, number_text}
+use Rattle.utf8.proofs.Laws.{text_rest}
 use Rattle.blank.specs.Blank.{blank, all_blank}
 use Rattle.spelling.specs.Rows as spellings
 use Rattle.spelling.specs.Spelling.{row, spelling}

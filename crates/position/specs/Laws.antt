@@ -1,7 +1,6 @@
 -- Laws of lines and columns: of bytes in two parts, of bytes with no newline, and that the column is what stands behind the last newline.
-use Rattle.std.specs.Prelude.{ℕ, suc, ◌+◌, ◌≤◌, ◌<◌, ◌≡◌, refl, List, [], ◌∷◌, ◌++◌, Bool, true, false, cond, eqb, length, take, get_or}
-use Rattle.std.proofs.Common.{arith, add-one, ◌∙◌, ap, sym, length-append, length-take-le, eqb-true}
-use Rattle.std.proofs.Math.Seq.{take-suc}
+use Rattle.std.specs.Prelude.{ℕ, ◌+◌, ◌≤◌, ◌≡◌, refl, List, [], ◌∷◌, ◌++◌, Bool, true, false, cond, eqb, length}
+use Rattle.std.proofs.Common.{arith, ◌∙◌}
 use Rattle.position.specs.Position.{newline, lines, next, column}
 
 -- ---- two parts
@@ -28,17 +27,12 @@ unfolding lines
 lines_length [] = omega arith
 lines_length (x ∷ s) = omega (arith, lines_length s, at_most_one x)
 
-one_more : (c x : ℕ) → next c x ≤ c + 1
+pub one_more : (c x : ℕ) → next c x ≤ c + 1
 one_more c x = by (eqb x 0x0A)
   where
     by : (t : Bool) → cond t 0 (c + 1) ≤ c + 1
     by true = omega arith
     by false = omega arith
-
-pub column_length : (c : ℕ) (s : List ℕ) → column c s ≤ c + length s
-unfolding column
-column_length c [] = omega arith
-column_length c (x ∷ s) = omega (arith, column_length (next c x) s, one_more c x)
 
 -- ---- no newline: the column goes on
 pub column_on : (c : ℕ) (s : List ℕ) → lines s ≡ 0 → column c s ≡ c + length s
@@ -68,20 +62,3 @@ column_anew c d (x ∷ s) h = by (eqb x 0x0A) refl (column_anew (next c x) (next
 pub column_behind : (c : ℕ) (a s : List ℕ) → lines s ≡ 0 → column c (a ++ (0x0A ∷ s)) ≡ length s
 unfolding column
 column_behind c a s e = column_append c a (0x0A ∷ s) ∙ column_on 0 s e ∙ omega arith
-
--- ---- a byte more
-module _ (s : List ℕ) (i : ℕ) (h : i < length s) where
-  pub lines_more : lines (take (i + 1) s) ≡ lines (take i s) + newline (get_or s i 0)
-  unfolding lines
-  lines_more = rw (add-one, take-suc s i 0, lines_append (take i s) (get_or s i 0 ∷ [])) (omega arith)
-
-  pub column_more : column 0 (take (i + 1) s) ≡ next (column 0 (take i s)) (get_or s i 0)
-  unfolding column
-  column_more = rw (add-one i, take-suc s i 0, column_append 0 (take i s) (get_or s i 0 ∷ []))
-
-  -- and neither leaves the bytes
-  pub lines_within : lines (take i s) + newline (get_or s i 0) ≤ length s
-  lines_within = omega (arith, lines_more, lines_length (take (i + 1) s), length-take-le (i + 1) s (omega arith))
-
-  pub column_within : column 0 (take i s) + 1 ≤ length s
-  column_within = omega (arith, column_length 0 (take i s), length-take-le i s (omega arith))

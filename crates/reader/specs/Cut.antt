@@ -7,10 +7,6 @@ use Rattle.reading.specs.Bytes.{word_byte, blanks, exes}
 use Rattle.reading.specs.Number.{Taken, taken, unclosed, after, takes, number}
 use Rattle.reading.specs.Lexeme.{Kind, Word, Number, Quoted, Blob, Variable, Operator, Mark}
 use Rattle.reading.specs.Reading.{operator_byte, Start, blank, mark, quote, digits, word, variable, operator, nothing, start, closing, opened, blobbed, Read, lexeme, finish, failure, answer, read, Lexed, Cuts, ended, failed, next}
-use Rattle.reading.specs.Readable.{Readable}
-use Rattle.reading.proofs.Once.{cut_once}
-use Rattle.reading.proofs.Demand3.{gives_back}
-use Rattle.stream.specs.Stream.{Token, text}
 use Rattle.reader.specs.Reader.{number as number_of_lem, end, stop, GivesOf, Gives}
 use Rattle.reader.specs.Splits.{splits, splits_after, takes_splits, closing_splits, blobbed_splits, number_splits}
 use Rattle.reader.specs.Sorts.{blank_begins}
@@ -76,13 +72,10 @@ tail_of front v r t e =
     let at : length t - length r ≡ length (front ++ v) = omega (arith, length-append (front ++ v) r) in
     rw (at, ← e, ← append_assoc front v r) (drop-append_seam (front ++ v) r)
 
-rest_of : (t : List ℕ) (n k s : ℕ) (r : List ℕ) (x : Read) → StandsIn x t → GivesOf x n k s r → drop (length t - length r) t ≡ r
+pub rest_of : (t : List ℕ) (n k s : ℕ) (r : List ℕ) (x : Read) → StandsIn x t → GivesOf x n k s r → drop (length t - length r) t ≡ r
 rest_of t n k s r (lexeme κ w u) f g = rw g.1.1 (tail_of f.front w u t f.is)
 rest_of t n k s r finish f g = rw g.1.1 (tail_of f.front [] [] t f.is)
 rest_of t n k s r (failure u) f g = rw g.1.1 (tail_of f.front [] u t f.is)
-
-pub rest_is : (t : List ℕ) (k s : ℕ) (r : List ℕ) → Gives t k s r → drop (length t - length r) t ≡ r
-rest_is t k s r g = rest_of t (length t) k s r (read t) (stands t) g
 
 -- ---- the loop: a call on the text, and then on what it handed back
 -- the bytes of a text from a place on, up to a rest of it
@@ -95,7 +88,7 @@ pub data Loop : List ℕ → List Lexed → List ℕ → Type 0 where
   on : {t r u : List ℕ} {ls : List Lexed} (s : ℕ) (κ : Kind) → Gives t (number_of_lem κ) s r → Loop r ls u → Loop t ((κ, between t s r) ∷ ls) u
 
 -- a number of a kind is that of no other, nor of the end or a failure
-least : (κ : Kind) → 1 ≤ number_of_lem κ
+pub least : (κ : Kind) → 1 ≤ number_of_lem κ
 least Word = omega arith
 least Number = omega arith
 least Quoted = omega arith
@@ -104,7 +97,7 @@ least Variable = omega arith
 least Operator = omega arith
 least Mark = omega arith
 
-most : (κ : Kind) → number_of_lem κ ≤ 7
+pub most : (κ : Kind) → number_of_lem κ ≤ 7
 most Word = omega arith
 most Number = omega arith
 most Quoted = omega arith
@@ -132,17 +125,6 @@ kind_is Variable = refl
 kind_is Operator = refl
 kind_is Mark = refl
 
--- what a call gave tells what was read
-told_end : (x : Read) (n s : ℕ) (r : List ℕ) → GivesOf x n end s r → (x ≡ finish) × (r ≡ [])
-told_end (lexeme κ w u) n s r g = absurd (not-suc-le-zero {n = 0} (omega (arith, least κ, g.0)))
-told_end finish n s r g = (refl, g.1.1)
-told_end (failure u) n s r g = absurd (not-suc-le-zero {n = 0} (omega (arith, g.0)))
-
-told_stop : (x : Read) (n s : ℕ) (r : List ℕ) → GivesOf x n stop s r → x ≡ failure r
-told_stop (lexeme κ w u) n s r g = absurd (not-suc-le-zero {n = 0} (omega (arith, most κ, g.0)))
-told_stop finish n s r g = absurd (not-suc-le-zero {n = 0} (omega (arith, g.0)))
-told_stop (failure u) n s r g = ap failure (sym g.1.1)
-
 between_is : (t w r : List ℕ) (s : ℕ) → Stands w r t → s + length w + length r ≡ length t → between t s r ≡ w
 between_is t w r s f e =
     let long : length f.front + (length w + length r) ≡ length t = sym (length-append f.front (w ++ r) ∙ ap (λ (k : ℕ). length f.front + k) (length-append w r)) ∙ ap length f.is in
@@ -150,18 +132,12 @@ between_is t w r s f e =
     let many : length t - length r - length f.front ≡ length w = omega arith in
     rw (at, many, ← f.is, drop-append_seam f.front (w ++ r), take-append_seam w r)
 
-told_lexeme : (κ : Kind) (t : List ℕ) (s : ℕ) (r : List ℕ) (x : Read) → StandsIn x t → GivesOf x (length t) (number_of_lem κ) s r → x ≡ lexeme κ (between t s r) r
+pub told_lexeme : (κ : Kind) (t : List ℕ) (s : ℕ) (r : List ℕ) (x : Read) → StandsIn x t → GivesOf x (length t) (number_of_lem κ) s r → x ≡ lexeme κ (between t s r) r
 told_lexeme κ t s r (lexeme λ' w u) f g =
     let same : κ ≡ λ' = kind_is κ ∙ ap kind_of g.0 ∙ sym (kind_is λ') in
     rw (same, g.1.1, between_is t w u s f g.1.0)
 told_lexeme κ t s r finish f g = absurd (not-suc-le-zero {n = 0} (omega (arith, least κ, g.0)))
 told_lexeme κ t s r (failure u) f g = absurd (not-suc-le-zero {n = 0} (omega (arith, most κ, g.0)))
-
--- ---- "any other text gives its lexemes to the end if nothing fails, else the lexemes before the first failure", and the rest starts there
-pub loop_cuts : (t : List ℕ) (ls : List Lexed) (u : List ℕ) → Loop t ls u → Cuts t ls u
-loop_cuts t _ u (to_the_end s g) = let h = told_end (read t) (length t) s u g in subst (λ (y : List ℕ). Cuts t [] y) (sym h.1) (ended h.0)
-loop_cuts t _ u (to_a_failure s g) = failed (told_stop (read t) (length t) s u g)
-loop_cuts t _ u (on {r = r} {ls = ls} s κ g l) = next (told_lexeme κ t s r (read t) (stands t) g) (loop_cuts r ls u l)
 
 fits : (x : Read) (v u t : List ℕ) → Stands v u t → length v + length u ≤ length t
 fits x v u t f = omega (arith, length-append f.front (v ++ u), length-append v u, ap length f.is)
@@ -176,10 +152,3 @@ cuts_loop t _ u (next {w = w} {r = r} {κ = κ} {ls = ls} e c) =
     let s : ℕ = length t - length r - length w in
     let whole : s + length w + length r ≡ length t = omega (arith, fits (read t) w r t f) in
     subst (λ (v : List ℕ). Loop t ((κ, v) ∷ ls) u) (between_is t w r s f whole) (on {t = t} {r = r} s κ (rw e (refl, (whole, refl))) (cuts_loop r ls u c))
-
--- ---- "Cut from end to end, a readable stream's text gives its spellings", and nothing else
-pub readable_loop : (ts : List Token) (ls : List Lexed) → Readable ts ls → Loop (text true ts) ls []
-readable_loop ts ls r = cuts_loop (text true ts) ls [] (gives_back ts ls r)
-
-pub loop_once : (t : List ℕ) (ls ms : List Lexed) (u v : List ℕ) → Loop t ls u → Loop t ms v → (ls ≡ ms) × (u ≡ v)
-loop_once t ls ms u v l m = cut_once t ls ms u v (loop_cuts t ls u l) (loop_cuts t ms v m)

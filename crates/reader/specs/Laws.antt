@@ -1,13 +1,13 @@
 -- What is taken from a place of a text on, a byte at a time: where it ends is the same from the next place on, or is here.
-use Rattle.std.specs.Prelude.{ℕ, suc, ◌+◌, ◌≤◌, ◌<◌, ◌≡◌, refl, List, [], ◌∷◌, ◌++◌, Bool, true, false, eqb, leb, length, drop, get_or}
-use Rattle.std.proofs.Common.{arith, add-one, ◌∙◌, sym, ap, length-append, drop_of_length-le, drop-cons, ne_eqb, leb-true, leb-false}
+use Rattle.std.specs.Prelude.{ℕ, ◌+◌, ◌≤◌, ◌<◌, ◌≡◌, refl, List, [], ◌∷◌, Bool, true, false, eqb, leb, length, drop, get_or}
+use Rattle.std.proofs.Common.{arith, add-one, ◌∙◌, sym, length-append, drop_of_length-le, drop-cons, ne_eqb, leb-true, leb-false}
 use Rattle.std.proofs.lemmas.Bool.{false≢true}
 use Rattle.reading.specs.Bytes.{apostrophe}
 use Rattle.reading.specs.Number.{Taken, taken, unclosed, after, takes}
 use Rattle.laws.specs.Among.{among}
 use Rattle.reading.specs.Bytes.{blanks}
 use Rattle.reading.specs.Reading.{through, closing, opened, read}
-use Rattle.reading.proofs.Taking.{closing_other, closing_last, closing_doubled}
+use Rattle.reading.proofs.Taking.{closing_last}
 use Rattle.reader.specs.Places.{past, bare}
 use Rattle.reader.specs.Sorts.{begins_blank}
 
@@ -19,14 +19,6 @@ pub past_after : (at : ℕ) (v : List ℕ) (x : Taken) → past at (after v x) �
 past_after at v (taken w r) = omega (arith, length-append v w)
 past_after at v unclosed = refl
 
-past_one : (i b : ℕ) (x : Taken) → past i (after (b ∷ []) x) ≡ past (i + 1) x
-past_one i b x = past_after i (b ∷ []) x
-
--- ---- bytes of a sort
-pub takes_on : (p : ℕ → Bool) (t : List ℕ) (i : ℕ) → i < length t → p (get_or t i 0) ≡ true → past i (takes p (drop i t)) ≡ past (i + 1) (takes p (drop (i + 1) t))
-unfolding takes
-takes_on p t i h e = rw (byte_then t i h, e) (past_one i (get_or t i 0) (takes p (drop (i + 1) t)))
-
 pub takes_off : (p : ℕ → Bool) (t : List ℕ) (i : ℕ) → i < length t → p (get_or t i 0) ≡ false → past i (takes p (drop i t)) ≡ i
 unfolding takes
 takes_off p t i h e = rw (byte_then t i h, e) (omega arith)
@@ -34,16 +26,6 @@ takes_off p t i h e = rw (byte_then t i h, e) (omega arith)
 pub takes_end : (p : ℕ → Bool) (t : List ℕ) (i : ℕ) → length t ≤ i → past i (takes p (drop i t)) ≡ i
 unfolding takes
 takes_end p t i h = rw (drop_of_length-le t h) (omega arith)
-
--- ---- a quotation
-pub closing_on : (q : ℕ) (t : List ℕ) (i : ℕ) → i < length t → (get_or t i 0 ≡ q → ⊥) → past i (closing q (drop i t)) ≡ past (i + 1) (closing q (drop (i + 1) t))
-closing_on q t i h n =
-    rw (byte_then t i h, closing_other q (get_or t i 0) (drop (i + 1) t) (ne_eqb (get_or t i 0) q n)) (past_one i (get_or t i 0) (closing q (drop (i + 1) t)))
-
-pub closing_twice : (q : ℕ) (t : List ℕ) (i : ℕ) → i + 1 < length t → get_or t i 0 ≡ q → get_or t (i + 1) 0 ≡ q → past i (closing q (drop i t)) ≡ past (i + 2) (closing q (drop (i + 2) t))
-closing_twice q t i h e f =
-    let two : i + 1 + 1 ≡ i + 2 = omega arith in
-    rw (byte_then t i (omega arith), byte_then t (i + 1) h, two, e, f, closing_doubled q (drop (i + 2) t)) (past_after i (q ∷ q ∷ []) (closing q (drop (i + 2) t)))
 
 pub closing_once : (q : ℕ) (t : List ℕ) (i : ℕ) → i + 1 < length t → get_or t i 0 ≡ q → (get_or t (i + 1) 0 ≡ q → ⊥) → past i (closing q (drop i t)) ≡ i + 1
 closing_once q t i h e n =
@@ -55,11 +37,6 @@ closing_at_end q t i h l e = rw (byte_then t i h, drop_of_length-le t l, e, clos
 pub closing_never : (q : ℕ) (t : List ℕ) (i : ℕ) → length t ≤ i → past i (closing q (drop i t)) ≡ 0
 unfolding closing
 closing_never q t i h = rw (drop_of_length-le t h)
-
--- ---- a blob
-pub through_on : (t : List ℕ) (i : ℕ) → i < length t → (get_or t i 0 ≡ apostrophe → ⊥) → past i (through apostrophe (drop i t)) ≡ past (i + 1) (through apostrophe (drop (i + 1) t))
-unfolding through
-through_on t i h n = rw (byte_then t i h, ne_eqb (get_or t i 0) apostrophe n) (past_one i (get_or t i 0) (through apostrophe (drop (i + 1) t)))
 
 pub through_here : (t : List ℕ) (i : ℕ) → i < length t → get_or t i 0 ≡ apostrophe → past i (through apostrophe (drop i t)) ≡ i + 1
 unfolding through

@@ -1,12 +1,12 @@
 -- Where a number ends: behind its digits, or behind a dot and digits.
 use Rattle.std.specs.Prelude.{ℕ, ◌+◌, ◌≤◌, ◌<◌, ◌≡◌, refl, List, [], ◌∷◌, ◌++◌, Bool, true, false, cond, ◌&&◌, eqb, length, drop, get_or}
-use Rattle.std.proofs.Common.{arith, not-suc-le-zero, sym, ap, ◌∙◌, length-append, length-drop, drop_of_length-le, drop-drop, eq-eqb, ne_eqb}
+use Rattle.std.proofs.Common.{arith, not-suc-le-zero, sym, ap, ◌∙◌, length-append, length-drop, drop-drop}
 use Rattle.std.proofs.Math.Seq.{drop-append_seam}
 use Rattle.reading.specs.Bytes.{digit, dot}
-use Rattle.reading.specs.Number.{Taken, taken, unclosed, after, takes, pointed, number}
+use Rattle.reading.specs.Number.{Taken, taken, after, takes, pointed, number}
 use Rattle.reader.specs.Places.{past}
-use Rattle.reader.specs.Laws.{byte_then, past_after}
-use Rattle.reader.specs.Splits.{splits, takes_splits}
+use Rattle.reader.specs.Laws.{byte_then}
+use Rattle.reader.specs.Splits.{takes_splits}
 
 -- bytes of a sort are never left open
 record Some (x : Taken) : Type 0 where
@@ -44,7 +44,7 @@ pub takes_inside : (p : ℕ → Bool) (t : List ℕ) (i e : ℕ) → i ≤ lengt
 takes_inside p t i e l h = let s = taking p t i l in rw (h, s.is) s.inside
 
 -- a number is its first digit, the digits behind it, and what a dot adds to them
-number_is : (t : List ℕ) (at : ℕ) → at < length t → (s : Taking digit t (at + 1)) → (e : ℕ) → e ≡ at + 1 + length s.word
+pub number_is : (t : List ℕ) (at : ℕ) → at < length t → (s : Taking digit t (at + 1)) → (e : ℕ) → e ≡ at + 1 + length s.word
     → number (get_or t at 0) (drop (at + 1) t) ≡ pointed (taken (get_or t at 0 ∷ s.word) (drop e t))
 unfolding number
 number_is t at l s e h = rw (s.is, h)
@@ -66,22 +66,9 @@ no_dot_left t e l h v = by (drop e t) (omega (arith, length-drop e t))
     by (b ∷ []) n = refl
     by (b ∷ c ∷ r) n = absurd (not-suc-le-zero {n = 0} (omega arith))
 
-two_then : (t : List ℕ) (e : ℕ) → e + 1 < length t → drop e t ≡ get_or t e 0 ∷ get_or t (e + 1) 0 ∷ drop (e + 1 + 1) t
+pub two_then : (t : List ℕ) (e : ℕ) → e + 1 < length t → drop e t ≡ get_or t e 0 ∷ get_or t (e + 1) 0 ∷ drop (e + 1 + 1) t
 two_then t e h = byte_then t e (omega arith) ∙ rw (byte_then t (e + 1) h)
 
 pub no_dot : (t : List ℕ) (e : ℕ) → e + 1 < length t → (eqb (get_or t e 0) dot && digit (get_or t (e + 1) 0)) ≡ false → (v : List ℕ) → pointed (taken v (drop e t)) ≡ taken v (drop e t)
 unfolding pointed
 no_dot t e h n v = rw (two_then t e h, n)
-
--- a dot and a digit
-pub number_dotted : (t : List ℕ) (at e f : ℕ) → at < length t → e ≡ past (at + 1) (takes digit (drop (at + 1) t)) → e + 1 < length t
-    → get_or t e 0 ≡ dot → digit (get_or t (e + 1) 0) ≡ true → f ≡ past (e + 1) (takes digit (drop (e + 1) t)) → f ≡ past at (number (get_or t at 0) (drop (at + 1) t))
-unfolding pointed
-number_dotted t at e f l h m d g k =
-    let s = taking digit t (at + 1) (omega arith) in
-    let place : e ≡ at + 1 + length s.word = h ∙ ap (past (at + 1)) s.is in
-    let v : List ℕ = get_or t at 0 ∷ s.word in
-    let x : Taken = takes digit (drop (e + 1) t) in
-    let is-dot : (eqb (get_or t e 0) dot && digit (get_or t (e + 1) 0)) ≡ true = rw (eq-eqb (get_or t e 0) dot d, g) in
-    let behind : pointed (taken v (drop e t)) ≡ after v (after (get_or t e 0 ∷ []) x) = rw (two_then t e m, is-dot, byte_then t (e + 1) m) in
-    rw (number_is t at l s e place, behind, past_after at v (after (get_or t e 0 ∷ []) x), past_after (at + length v) (get_or t e 0 ∷ []) x) (k ∙ ap (λ (i : ℕ). past i x) (omega arith))

@@ -2,17 +2,14 @@
 use Rattle.std.specs.Prelude.{ℕ, ◌+◌, ◌*◌, ◌≤◌, ◌<◌, ◌≡◌, refl, List, cond, ◌||◌, eqb, length}
 use Rattle.std.proofs.Common.{arith, ap}
 use Rattle.reading.specs.Lexeme.{Kind, Word, Number, Quoted, Blob, Variable, Operator, Mark}
-use Rattle.reading.specs.Reading.{Read, lexeme, finish, failure, read}
-use Rattle.reading.proofs.Once.{under, read_shorter}
-use Rattle.reader.specs.Reader.{number, end, stop, GivesOf, Gives}
+use Rattle.reading.specs.Reading.{Read, lexeme, finish, failure}
+use Rattle.reading.proofs.Once.{under}
+use Rattle.reader.specs.Reader.{number, end, stop, GivesOf}
 
-inside_of : (x : Read) (n k s : ℕ) (r : List ℕ) → GivesOf x n k s r → s + length r ≤ n
+pub inside_of : (x : Read) (n k s : ℕ) (r : List ℕ) → GivesOf x n k s r → s + length r ≤ n
 inside_of (lexeme κ w u) n k s r g = omega (arith, g.1.0, ap length g.1.1)
 inside_of finish n k s r g = omega (arith, g.1.0, ap length g.1.1)
 inside_of (failure u) n k s r g = omega (arith, g.1.0, ap length g.1.1)
-
-pub inside : (t : List ℕ) (k s : ℕ) (r : List ℕ) → Gives t k s r → s + length r ≤ length t
-inside t k s r g = inside_of (read t) (length t) k s r g
 
 -- 1 where a reading goes on, and 0 behind the end and a failure
 abbrev pub going : ℕ → ℕ
@@ -27,10 +24,7 @@ going_on Variable = refl
 going_on Operator = refl
 going_on Mark = refl
 
-fewer_of : (x : Read) (n k s : ℕ) (r : List ℕ) → GivesOf x n k s r → under x n → 2 * length r + going k < 2 * n + 1
+pub fewer_of : (x : Read) (n k s : ℕ) (r : List ℕ) → GivesOf x n k s r → under x n → 2 * length r + going k < 2 * n + 1
 fewer_of (lexeme κ w u) n k s r g h = rw (g.0, g.1.1, going_on κ) (omega arith)
 fewer_of finish n k s r g h = rw (g.0, g.1.1) (omega arith)
 fewer_of (failure u) n k s r g h = rw (g.0, g.1.1) (omega (arith, g.1.0))
-
-pub fewer : (t : List ℕ) (k s : ℕ) (r : List ℕ) → Gives t k s r → 2 * length r + going k < 2 * length t + 1
-fewer t k s r g = fewer_of (read t) (length t) k s r g (read_shorter t)

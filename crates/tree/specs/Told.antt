@@ -8,8 +8,9 @@ use Rattle.laws.specs.First.{first}
 use Rattle.mode.specs.declared.Mode.{Mode}
 use Rattle.utf8.specs.Rfc3629 as utf8
 use Rattle.utf8.specs.Rfc3629.{Encoded, boundary, none}
-use Rattle.utf8.specs.Laws.{number_text, boundary_text}
-use Rattle.utf8.specs.Decided.{decided}
+use Rattle.utf8.specs.Laws.{number_text}
+use Rattle.utf8.proofs.Laws.{boundary_text}
+use Rattle.utf8.proofs.Decided.{decided}
 use Rattle.utf8.specs.declared.Encoding.{Encoding}
 use Rattle.utf8.specs.declared.Encoding.TheVariants.{Bad}
 use Rattle.record.specs.Record.{count}

@@ -1,2 +1,7 @@
+pub mod Characters
+pub mod Beginnings
+pub mod Laws
+pub mod Examples
+pub mod Decided
 pub mod Ways
 pub mod Turn

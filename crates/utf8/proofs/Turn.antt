@@ -10,8 +10,10 @@ use lib.Seq.{take-add}
 use Rattle.laws.specs.Rest.{rest, left_of}
 use Rattle.utf8.specs.Rfc3629.{Text, Longest}
 use Rattle.utf8.specs.Scan.{width}
-use Rattle.utf8.specs.Characters.{width_none, width_starts}
-use Rattle.utf8.specs.Laws.{text_append, text_char, longest_here}
+use Rattle.utf8.specs.Characters.{width_starts}
+use Rattle.utf8.proofs.Characters.{width_none}
+use Rattle.utf8.specs.Laws.{text_append, text_char}
+use Rattle.utf8.proofs.Laws.{longest_here}
 use Rattle.utf8.specs.Plain.{all_plain, Goes, plain_text}
 
 -- by the length of the character that begins the row

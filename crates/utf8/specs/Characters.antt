@@ -2,8 +2,7 @@
 -- A character's length goes by its first byte, so two characters that begin the same bytes are the same.
 -- Assumes nothing.
 use Rattle.std.specs.Prelude.{ℕ, zero, suc, ◌≤◌, ◌<◌, ◌≡◌, refl, List, [], ◌∷◌, ◌++◌, Bool, true, false, cond, ◌&&◌, leb, ltb, length, take, drop, get_or}
-use Rattle.std.proofs.Common.{◌∙◌, ap, sym, le_of_suc-le-suc, not-suc-le-zero, arith, le-leb, leb-true, lt-ltb, le-ltb, ltb-true, ltb-false, ne_eqb}
-use Rattle.std.proofs.Math.Seq.{take-append_seam, drop-append_seam}
+use Rattle.std.proofs.Common.{ap, le_of_suc-le-suc, not-suc-le-zero, arith, le-leb, leb-true, lt-ltb, le-ltb, ltb-true, ltb-false, ne_eqb}
 use Rattle.laws.specs.Tests.{and_left, and_right, and_both}
 use Rattle.utf8.specs.Rfc3629.{In, Tail, tail, Char, one, two, three_E0, three_E1, three_ED, three_EE, four_F0, four_F1, four_F4}
 use Rattle.utf8.specs.Scan.{ones, low, high, second, pair, triple, quadruple, passing, two as two', three as three', four as four', counted, width}
@@ -245,21 +244,6 @@ char_length (three_EE h k l) = omega arith
 char_length (four_F0 h k l m) = omega arith
 char_length (four_F1 h k l m) = omega arith
 char_length (four_F4 h k l m) = omega arith
-
-pub width_none : (s : List ℕ) → width s ≡ 0 → NoChar s
-width_none s e c t h p = omega (arith, char_length h, width_char h t, ap width p)
-
--- two characters that begin the same bytes are the same
-pub char_prefix : {c d : List ℕ} → Char c → Char d → (t u : List ℕ) → c ++ t ≡ d ++ u → c ≡ d
-char_prefix {c} {d} h k t u e =
-    let n : length c ≡ length d = sym (width_char h t) ∙ ap width e ∙ width_char k u in
-    cc (take-append_seam c t, take-append_seam d u)
-
--- and so are the bytes after them
-pub char_rest : {c d : List ℕ} → Char c → Char d → (t u : List ℕ) → c ++ t ≡ d ++ u → t ≡ u
-char_rest {c} {d} h k t u e =
-    let n : c ≡ d = char_prefix h k t u e in
-    cc (drop-append_seam c t, drop-append_seam d u)
 
 -- a character's first byte is no tail
 pub char_lead : {c : List ℕ} → Char c → (t : List ℕ) → Tail (get_or (c ++ t) 0 0) → ⊥

@@ -6,4 +6,3 @@ pub mod Laws
 pub mod Plain
 pub mod Mask
 pub mod Examples
-pub mod Decided

@@ -9,7 +9,8 @@ use Rattle.append.specs.declared.Answer.{Answer}
 use Rattle.append.specs.declared.Answer.TheVariants.{Added}
 use Rattle.append.specs.Append.{Appends, news, number, code}
 use Rattle.append.specs.Laws.{place_small}
-use Rattle.append.specs.Lists.{Lent, tokens_of, text_from, AppendsAll, AllFine, all_succeed, Held, held_on, Appended, appended, succeeds, output_length, zero_added}
+use Rattle.append.specs.Lists.{Lent, tokens_of, text_from, AppendsAll, AllFine, Held, held_on, Appended, succeeds, output_length, zero_added}
+use Rattle.append.proofs.Lists.{all_succeed, appended}
 use Rattle.append.specs.Lists.{none as no-append, one as one-append}
 use Rattle.wire.specs.Wire.{well_formed, unpacked, bit_of, packed, repacked, Done, Crosses}
 use Rattle.wire.specs.Laws.{Fields, count_read, line_read, column_read, little_length, well}

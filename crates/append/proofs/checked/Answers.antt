@@ -1,6 +1,6 @@
 -- `append::checked` meets its contract: the first fitting refusal, or what `put` does.
-use Rattle.append.specs.Laws.{all_refused, all_ready, all_accepted}
-use borrow.Author.Rules.{rules}
+use Rattle.append.specs.Laws.{all_refused, all_accepted}
+use Rattle.append.proofs.Laws.{all_ready}
 use Rattle.append.proofs.checked.Goals as goal
 
 pub put-requires : goal.put-requires

@@ -3,7 +3,8 @@ use Prim.Native.Nat.{◌≤◌}
 use native.Mathlib.Omega.{arith}
 use lib.ListN.{length}
 use Rattle.stream.specs.Sink.{most}
-use Rattle.append.specs.Laws.{emits, put_counts, put_moves, put_all}
+use Rattle.append.specs.Laws.{emits}
+use Rattle.append.proofs.Laws.{put_counts, put_moves, put_all}
 use borrow.Author.Rules.{rules}
 use Rattle.append.proofs.put.Goals as goal
 

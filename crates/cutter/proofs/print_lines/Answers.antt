@@ -6,7 +6,8 @@ use mathlib.Core.Path.{◌≡◌, refl, sym, ◌∙◌}
 use lib.Seq.{length-take-le}
 use borrow.Author.Tests.{ne_eqb}
 use Rattle.reader.specs.Reader.{end, stop}
-use Rattle.reader.specs.Turns.{inside, going, fewer}
+use Rattle.reader.specs.Turns.{going}
+use Rattle.reader.proofs.Turns.{inside, fewer}
 use Rattle.cutter.specs.Laws.{stored_few, kept}
 use Rattle.cutter.proofs.print_lines.Goals as goal
 

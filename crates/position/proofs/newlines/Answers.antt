@@ -1,12 +1,9 @@
 -- `position::newlines` meets its contract. The loop's invariant: what was found is that of the bytes before `i`; what is left falls with each turn.
-use Prim.Native.Nat.{◌≤◌, ◌-◌}
-use mathlib.Core.Path.{◌≡◌, refl}
+use mathlib.Core.Path.{refl}
 use native.Mathlib.Omega.{arith}
-use lib.ListN.{length, take}
 use lib.Seq.{take_all}
 use Rattle.position.specs.Position.{lines, column}
-use Rattle.position.specs.Laws.{lines_more, column_more, lines_within, column_within}
-use borrow.Author.Rules.{rules}
+use Rattle.position.proofs.Laws.{lines_more, column_more, lines_within, column_within}
 use Rattle.position.proofs.newlines.Goals as goal
 
 pub loop-i-init : goal.loop-i-init

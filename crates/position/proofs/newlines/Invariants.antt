@@ -1,12 +1,8 @@
 -- `position::newlines` meets its contract. The loop's invariant: what was found is that of the bytes before `i`; what is left falls with each turn.
 use Prim.Native.Nat.{◌≤◌, ◌-◌}
-use mathlib.Core.Path.{◌≡◌, refl}
-use native.Mathlib.Omega.{arith}
+use mathlib.Core.Path.{◌≡◌}
 use lib.ListN.{length, take}
-use lib.Seq.{take_all}
 use Rattle.position.specs.Position.{lines, column}
-use Rattle.position.specs.Laws.{lines_more, column_more, lines_within, column_within}
-use borrow.Author.Rules.{rules}
 use Rattle.position.proofs.newlines.Given as goal
 
 abbrev pub invariant-loop-i : goal.invariant-loop-i

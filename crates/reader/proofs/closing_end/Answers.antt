@@ -1,12 +1,9 @@
 -- `reader::closing_end` meets its contract. The loop's invariant: where the quotation ends is the same from the start and from `i` on.
-use Prim.Native.Nat.{◌≤◌, ◌-◌}
 use native.Mathlib.Omega.{arith}
-use mathlib.Core.Path.{◌≡◌, refl, sym, ◌∙◌}
-use lib.ListN.{length, drop}
+use mathlib.Core.Path.{refl, sym, ◌∙◌}
 use borrow.Author.Rules.{rules}
-use Rattle.reading.specs.Reading.{closing}
-use Rattle.reader.specs.Places.{past}
-use Rattle.reader.specs.Laws.{closing_on, closing_twice, closing_once, closing_at_end, closing_never}
+use Rattle.reader.specs.Laws.{closing_once, closing_at_end, closing_never}
+use Rattle.reader.proofs.Laws.{closing_on, closing_twice}
 use Rattle.reader.proofs.closing_end.Goals as goal
 
 pub loop-i-init : goal.loop-i-init

@@ -3,14 +3,13 @@ use Prim.Native.Nat.{◌+◌}
 use mathlib.Core.Path.{sym, ◌∙◌}
 use lib.ListN.{drop, get_or}
 use native.Mathlib.Omega.{arith}
-use borrow.Author.Rules.{rules}
 use Rattle.laws.specs.Tests.{and_right}
 use Rattle.laws.specs.Among.{among}
 use Rattle.reading.specs.Bytes.{exes}
 use Rattle.reading.specs.Reading.{opened}
 use Rattle.reader.specs.Laws.{opened_inside, not_blank}
 use Rattle.reader.specs.Sorts.{begins_word, begins_mark, begins_digits, begins_quote, begins_operator, begins_variable, begins_nothing}
-use Rattle.reader.specs.Finds.{found_mark, found_quoted, found_operator, found_variable, found_word, found_blob, found_number, found_nothing}
+use Rattle.reader.proofs.Finds.{found_mark, found_quoted, found_operator, found_variable, found_word, found_blob, found_number, found_nothing}
 use Rattle.reader.proofs.lexeme_at.Goals as goal
 
 pub returns-then-opens_blob : goal.returns-then-opens_blob

@@ -2,10 +2,10 @@
 use Prim.Native.Nat.{◌+◌}
 use mathlib.Core.Path.{sym, ◌∙◌}
 use native.Mathlib.Omega.{arith}
-use borrow.Author.Rules.{rules}
 use borrow.Author.Tests.{not-true, not-false, ne_eqb, eq-eqb}
 use Rattle.reading.specs.Bytes.{digit, dot}
-use Rattle.reader.specs.Numbers.{takes_inside, number_whole, no_dot_left, no_dot, number_dotted}
+use Rattle.reader.specs.Numbers.{takes_inside, number_whole, no_dot_left, no_dot}
+use Rattle.reader.proofs.Numbers.{number_dotted}
 use Rattle.reader.proofs.number_end.Goals as goal
 
 pub overflow_sub-text : goal.overflow_sub-text

@@ -1,13 +1,10 @@
 -- `reader::operator_end` meets its contract. The loop's invariant: where the bytes end is the same from the start and from `i` on.
-use Prim.Native.Nat.{◌≤◌, ◌-◌}
-use mathlib.Core.Path.{◌≡◌, refl, sym, ◌∙◌}
-use lib.ListN.{length, drop}
+use mathlib.Core.Path.{refl, sym, ◌∙◌}
 use borrow.Author.Rules.{rules}
 use borrow.Author.Tests.{not-true, not-false}
 use Rattle.reading.specs.Reading.{operator_byte}
-use Rattle.reading.specs.Number.{takes}
-use Rattle.reader.specs.Places.{past}
-use Rattle.reader.specs.Laws.{takes_on, takes_off, takes_end}
+use Rattle.reader.specs.Laws.{takes_off, takes_end}
+use Rattle.reader.proofs.Laws.{takes_on}
 use Rattle.reader.proofs.operator_end.Goals as goal
 
 pub loop-i-init : goal.loop-i-init

@@ -1,12 +1,8 @@
 -- `reader::through_end` meets its contract. The loop's invariant: where the blob ends is the same from the start and from `i` on.
-use Prim.Native.Nat.{◌≤◌, ◌-◌}
-use mathlib.Core.Path.{◌≡◌, refl, sym, ◌∙◌}
-use lib.ListN.{length, drop}
+use mathlib.Core.Path.{refl, sym, ◌∙◌}
 use borrow.Author.Rules.{rules}
-use Rattle.reading.specs.Bytes.{apostrophe}
-use Rattle.reading.specs.Reading.{through}
-use Rattle.reader.specs.Places.{past}
-use Rattle.reader.specs.Laws.{through_on, through_here, through_never}
+use Rattle.reader.specs.Laws.{through_here, through_never}
+use Rattle.reader.proofs.Laws.{through_on}
 use Rattle.reader.proofs.through_end.Goals as goal
 
 pub loop-i-init : goal.loop-i-init

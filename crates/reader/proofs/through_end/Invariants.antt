@@ -1,12 +1,10 @@
 -- `reader::through_end` meets its contract. The loop's invariant: where the blob ends is the same from the start and from `i` on.
 use Prim.Native.Nat.{◌≤◌, ◌-◌}
-use mathlib.Core.Path.{◌≡◌, refl, sym, ◌∙◌}
+use mathlib.Core.Path.{◌≡◌}
 use lib.ListN.{length, drop}
-use borrow.Author.Rules.{rules}
 use Rattle.reading.specs.Bytes.{apostrophe}
 use Rattle.reading.specs.Reading.{through}
 use Rattle.reader.specs.Places.{past}
-use Rattle.reader.specs.Laws.{through_on, through_here, through_never}
 use Rattle.reader.proofs.through_end.Given as goal
 
 abbrev pub invariant-loop-i : goal.invariant-loop-i

@@ -1,14 +1,11 @@
 -- `utf8::check` meets its contract. The loop's invariant: `i` is within the bytes, and those before it are a text; what is left falls with each turn.
 -- It begins with plain bytes. A turn finds how far the text goes on, or that no character is there, and the longest text ends at `i` (`Turn`);
 -- what is then said of the bytes to the end is `broken_encoded`. Assumes nothing.
-use Prim.Native.Nat.{◌≤◌, ◌-◌}
 use native.Mathlib.Omega.{arith}
-use lib.ListN.{length, take}
+use lib.ListN.{take}
 use lib.Seq.{take_all}
-use borrow.Author.Rules.{rules}
 use Rattle.laws.specs.Rest.{rest}
-use Rattle.utf8.specs.Rfc3629.{Text}
-use Rattle.utf8.specs.Beginnings.{broken_encoded}
+use Rattle.utf8.proofs.Beginnings.{broken_encoded}
 use Rattle.utf8.specs.Plain.{plain_text}
 use Rattle.utf8.proofs.Turn.{some_left, stops, goes_on}
 use Rattle.utf8.proofs.check.Goals as goal

@@ -1,7 +1,7 @@
 -- `kinyandoma_lexeme` meets its contract: the rest that `read` hands back is the text from the place on that its length tells.
 use native.Mathlib.Omega.{arith}
 use borrow.Author.Rules.{rules}
-use Rattle.reader.specs.Turns.{inside}
+use Rattle.reader.proofs.Turns.{inside}
 use Rattle.kinyandoma.specs.Lexemes.{crossed}
 use Rattle.kinyandoma.proofs.lexemes.kinyandoma_lexeme.Goals as goal
 

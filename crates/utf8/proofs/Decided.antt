@@ -6,9 +6,11 @@ use Rattle.utf8.specs.declared.Encoding.{Encoding}
 use Rattle.utf8.specs.declared.Encoding.TheVariants.{Valid}
 use Rattle.utf8.specs.Rfc3629.{Text, none, Encoded}
 use Rattle.utf8.specs.Scan.{width, broken_at}
-use Rattle.utf8.specs.Beginnings.{broken_encoded}
-use Rattle.utf8.specs.Characters.{width_none, width_starts}
-use Rattle.utf8.specs.Laws.{text_append, text_char, longest_here}
+use Rattle.utf8.proofs.Beginnings.{broken_encoded}
+use Rattle.utf8.specs.Characters.{width_starts}
+use Rattle.utf8.proofs.Characters.{width_none}
+use Rattle.utf8.specs.Laws.{text_append, text_char}
+use Rattle.utf8.proofs.Laws.{longest_here}
 
 abbrev Decided : List ℕ → Type 0
 Decided s = (e : Encoding) × Encoded s e

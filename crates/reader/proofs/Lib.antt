@@ -1,0 +1,5 @@
+pub mod Laws
+pub mod Finds
+pub mod Numbers
+pub mod Turns
+pub mod Cut
