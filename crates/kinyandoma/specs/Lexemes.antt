@@ -3,6 +3,7 @@ use Rattle.std.specs.Prelude.{ℕ, ◌-◌, ◌≤◌, ◌≡◌, List, length, 
 use Rattle.std.proofs.Common.{arith, ap, length-drop}
 use Rattle.reader.specs.Reader.{Gives}
 use Rattle.reader.specs.Cut as cut
+use Rattle.reader.proofs.Cut.{rest_is}
 
 -- the rest is the text from its place on
 pub record Lexed (t : List ℕ) (kind start rest : ℕ) : Type 0 where
@@ -11,7 +12,7 @@ pub record Lexed (t : List ℕ) (kind start rest : ℕ) : Type 0 where
 
 -- the rest that is handed back is told by its place
 pub crossed : (t : List ℕ) (k s : ℕ) (r : List ℕ) → Gives t k s r → Lexed t k s (length t - length r)
-crossed t k s r g = record { gives = rw (cut.rest_is t k s r g) g; within = omega arith }
+crossed t k s r g = record { gives = rw (rest_is t k s r g) g; within = omega arith }
 
 -- no two outcomes satisfy it
 pub unique : (t : List ℕ) (k s r k' s' r' : ℕ) → Lexed t k s r → Lexed t k' s' r' → (k ≡ k') × ((s ≡ s') × (r ≡ r'))
