@@ -20,7 +20,7 @@ use Rattle.grammar.specs.Kind.{LIST, RUN}
 use Rattle.grammar.specs.Shape.{Class}
 use Rattle.grammar.specs.Grammar.{root, shape}
 use Rattle.tree.specs.Check.{Place, place, holds, fits, inside, swallows, misnames, deepest, faults_in, scan_in, malformed, longest, answer_in, ChecksIn, number_of}
-use Rattle.tree.specs.Steps.{kids_are}
+use Rattle.tree.proofs.Steps.{kids_are}
 use Rattle.tree.specs.declared.Answer.{Answer}
 use Rattle.tree.specs.declared.Answer.TheVariants.{Malformed, TooLong, Broken, Mark, Misfit, Outside, Unclosed, NotRowid, Deep}
 use Rattle.tokens.specs.Tokens.{Source, in_edition, part, text_of}

@@ -20,7 +20,7 @@ use Rattle.grammar.specs.Slots.{slots_of, allowed, elements}
 use Rattle.grammar.specs.Laws.{same_all, same_all_lem}
 use Rattle.tree.specs.Check.{Place, place, holds, fits}
 use Rattle.tree.specs.Check.{deepest as nesting}
-use Rattle.tree.specs.Steps.{childless}
+use Rattle.tree.proofs.Steps.{childless}
 use Rattle.tokens.specs.Corners.{bare, valued, newline}
 use Rattle.tokens.specs.Tokens.{Source, Out, at, behind, token_of, flagged, say, of, then, listed, placed, of_kind, comma, bracketed, checked, means, deepest}
 use Rattle.admitted.specs.Watched.{in_place, left_out, token_place, watched}

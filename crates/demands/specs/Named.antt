@@ -25,7 +25,7 @@ use Rattle.grammar.specs.Grammar.{shape}
 use Rattle.grammar.specs.Slots.{allowed}
 use Rattle.tokens.specs.Tokens.{behind, token_of, rows, placed, means, node, whole, tokens_of, text_of}
 use Rattle.tree.specs.Check.{has_part, malformed, answer_in, ChecksIn, number_of}
-use Rattle.tree.specs.Whole as whole
+use Rattle.tree.proofs.Whole as whole
 use Rattle.tree.specs.declared.Answer.{Answer}
 use Rattle.tree.specs.declared.Answer.TheVariants.{Admitted, Malformed, Broken}
 use Rattle.admitted.specs.Named.{part_of, Agree}

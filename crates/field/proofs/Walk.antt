@@ -10,7 +10,7 @@ use Rattle.record.specs.Record.{record_at, count}
 use Rattle.grammar.specs.Shape.{Class}
 use Rattle.grammar.specs.Packed.{turn}
 use Rattle.tree.specs.Check.{Place, place, holds, fits}
-use Rattle.tree.specs.Steps.{childless}
+use Rattle.tree.proofs.Steps.{childless}
 use Rattle.tree.specs.Walk.{refused}
 use Rattle.admitted.proofs.Fills.{fill}
 use Rattle.field.specs.Profile.{breaks, stopped, behind, first_break}

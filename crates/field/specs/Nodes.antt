@@ -19,7 +19,7 @@ use Rattle.grammar.specs.Slots.{slots_of, elements}
 use Rattle.grammar.specs.Packed.{each, turn}
 use Rattle.grammar.specs.Entries.{entries, entry}
 use Rattle.tree.specs.Check.{holds, fits}
-use Rattle.tree.specs.Steps.{kids_are}
+use Rattle.tree.proofs.Steps.{kids_are}
 use Rattle.field.specs.Profile.{foreign, first_node, takes_node, deepest}
 
 -- ---- the numbers

@@ -24,12 +24,7 @@ pub fn kinyandoma_measure_with(options: u32, tree: &[u8], text: &[u8]) -> u64
 }
 
 // The text of a tree written to the output, in the mode that the options stand for (02).
-pub fn kinyandoma_render_with(
-    options: u32,
-    tree: &[u8],
-    text: &[u8],
-    out: &mut [u8],
-) -> u64
+pub fn kinyandoma_render_with(options: u32, tree: &[u8], text: &[u8], out: &mut [u8]) -> u64
     ensures { RendersIn (mode_of options) tree.now text.now out.old result out.new }
 {
     code(render::render(mode::of(options), tree, text, out))

@@ -16,7 +16,7 @@ use Rattle.stream.specs.Sink.{State, most}
 use Rattle.stream.specs.Laws.{count_fits}
 use Rattle.tree.specs.Check as tree
 use Rattle.tree.specs.Check.{ChecksIn}
-use Rattle.tree.specs.Whole as whole
+use Rattle.tree.proofs.Whole as whole
 use Rattle.tree.specs.Bounds.{place_small, admitted_short, number_small as tree-number-small}
 use Rattle.tree.specs.declared.Answer.{Answer}
 use Rattle.tokens.specs.Tokens.{tokens_of}

@@ -22,7 +22,7 @@ use Rattle.grammar.specs.Classes.{classes, classes_held, class_at, token_at, tok
 use Rattle.grammar.specs.Packed.{kinds_held, each, row_of, turn, along}
 use Rattle.grammar.specs.Laws.{same_along, same_held, list_along, slots_along}
 use Rattle.tree.specs.Check.{Place, place, holds, fits, inside}
-use Rattle.tree.specs.Steps.{childless, fitting_kind, along_split, run_holds, row_holds, row_held, slots_counted}
+use Rattle.tree.proofs.Steps.{childless, fitting_kind, along_split, run_holds, row_holds, row_held, slots_counted}
 use Rattle.rules.specs.Rules.{rule_at, rules_of, rule_fault, stopped, behind}
 use Rattle.rules.specs.declared.Found.{Found}
 use Rattle.rules.specs.Walk.{Reached, Goes, bytes_of, Led, Finds, Going, below_reached, here_fits, here_inside, near, breaks, ends, passes, start, first_held, first_rule, others, slots_ruled, Children}

@@ -22,7 +22,7 @@ use Rattle.grammar.specs.Slots.{slots_of}
 use Rattle.grammar.specs.Classes.{classes_held, class_at}
 use Rattle.grammar.specs.Packed.{kinds_held, turn, along, all_held}
 use Rattle.tree.specs.Check.{Place, place, holds, fits, inside, deepest, faults_in, scan_in, scan}
-use Rattle.tree.specs.Steps.{held_split}
+use Rattle.tree.proofs.Steps.{held_split}
 use Rattle.tree.specs.declared.Answer.{Answer}
 use Rattle.tree.specs.declared.Answer.TheVariants.{Mark, Misfit, Outside, Deep}
 use Rattle.rules.specs.Rules.{rule_at, rules_of, rule_fault, sound_to, stopped, behind, broken}

@@ -2,7 +2,6 @@ pub mod Check
 pub mod Walk
 pub mod Laws
 pub mod Steps
-pub mod Whole
 pub mod Bounds
 pub mod Examples
 pub mod Told

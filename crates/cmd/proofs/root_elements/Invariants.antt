@@ -14,7 +14,7 @@ use Rattle.pen.specs.Rows.{opt, row_first, row_done}
 use Rattle.cmd.proofs.root_elements.Given as goal
 
 abbrev pub invariant-loop-rest : goal.invariant-loop-rest
-invariant-loop-rest l =     put l.pool (rows (placed (in_edition l.tree l.text l.edition) (node (in_edition l.tree l.text l.edition) l.left) (one root_kinds)) (opt l.lead comma) comma l.rest l.q.next) (l.q, l.out)
+invariant-loop-rest l = put l.pool (rows (placed (in_edition l.tree l.text l.edition) (node (in_edition l.tree l.text l.edition) l.left) (one root_kinds)) (opt l.lead comma) comma l.rest l.q.next) (l.q, l.out)
     ≡ put l.pool (rows (placed (in_edition l.tree l.text l.edition) (node (in_edition l.tree l.text l.edition) l.left) (one root_kinds)) [] comma l.n l.initial.q.next) (l.initial.q, l.initial.out)
 
 abbrev pub decreases-loop-rest : goal.decreases-loop-rest

@@ -4,7 +4,7 @@
 use native.Mathlib.Omega.{arith}
 use Prim.Native.Nat.{◌+◌}
 use mathlib.Core.Path.{refl}
-use Rattle.tree.specs.Steps.{along_none}
+use Rattle.tree.proofs.Steps.{along_none}
 use Rattle.rules.specs.Walk.{start, ends, more_below}
 use Rattle.rules.proofs.Walk.{turn_inside, turn_left, turn_led, turn_breaks, turn_found, turn_on, walked_below, none_below}
 use Rattle.rules.proofs.+rule_row.Goals.{then-r-next+else-found-ne0, else-r-next}

@@ -2,7 +2,7 @@
 -- loop: what is left of it from here leads to the same answer as all of it from the start (`Along`). A record is refused, or it has no
 -- children, or they are the TOKENs of a RUN, or a row below.
 use native.Mathlib.Omega.{arith}
-use Rattle.tree.specs.Steps.{childless, run_holds, row_holds, row_held, along_start, nothing_walked, row_end, row_refused, row_filled, there, met_fits, met_left, along_split, held_split, along_none}
+use Rattle.tree.proofs.Steps.{childless, run_holds, row_holds, row_held, along_start, nothing_walked, row_end, row_refused, row_filled, there, met_fits, met_left, along_split, held_split, along_none}
 use Rattle.tree.proofs.+check_row.Goals.{then-r-ne0+then-r-eq-RUN, then-r-ne0+else-r-eq-RUN, else-r-ne0}
 use Rattle.tree.proofs.+check_row.Goals as goal
 

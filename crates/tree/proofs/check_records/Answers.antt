@@ -2,7 +2,7 @@
 use borrow.Author.Rules.{rules}
 use native.Mathlib.Omega.{arith}
 use mathlib.Core.Path.{refl, ◌∙◌, sym}
-use Rattle.tree.specs.Whole.{all_filled, else_refused}
+use Rattle.tree.proofs.Whole.{all_filled, else_refused}
 use Rattle.tree.proofs.check_records.Goals as goal
 
 pub returns-then-w-count : goal.returns-then-w-count

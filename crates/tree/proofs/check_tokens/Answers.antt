@@ -7,8 +7,9 @@ use lib.ListN.{replicate}
 use Rattle.record.specs.Record.{count}
 use Rattle.grammar.specs.Classes.{class_at, token_at}
 use Rattle.tree.specs.Check.{place}
-use Rattle.tree.specs.Walk.{past, faulted, down, fine_fits, fault_small}
-use Rattle.tree.specs.Steps.{token_childless, same_split, same_none, Along, along_start, nothing_walked, row_end, row_next, row_stops}
+use Rattle.tree.proofs.Walk.{past, faulted, down, fine_fits, fault_small}
+use Rattle.tree.specs.Steps.{Along}
+use Rattle.tree.proofs.Steps.{token_childless, same_split, same_none, along_start, nothing_walked, row_end, row_next, row_stops}
 use borrow.Author.Rules.{rules}
 use Rattle.tree.proofs.check_tokens.Goals as goal
 

@@ -1,6 +1,6 @@
 -- `tree::check_told` meets its contract: each return is the first refusal that fits, or what the records come to.
 use borrow.Author.Tests.{not-false}
-use Rattle.tree.specs.Whole.{short_count}
+use Rattle.tree.proofs.Whole.{short_count}
 use Rattle.tree.specs.Told.{is_malformed, too_long, ill, begun_inside, looked_at}
 use mathlib.Core.Path.{◌∙◌, sym}
 use borrow.Author.Rules.{rules}

@@ -1,7 +1,7 @@
 -- `tree::refused_at` meets its contract: there is no record, it has a fault, or it has none.
 use borrow.Author.Rules.{rules}
 use native.Mathlib.Omega.{arith}
-use Rattle.tree.specs.Walk.{fault_small, meets_none_there, meets_fault, meets_none}
+use Rattle.tree.proofs.Walk.{fault_small, meets_none_there, meets_fault, meets_none}
 use Rattle.tree.proofs.refused_at.Goals as goal
 
 pub returns-then-count-index : goal.returns-then-count-index

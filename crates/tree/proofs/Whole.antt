@@ -14,7 +14,8 @@ use Rattle.tree.specs.Check.{place, scan_in, scan, malformed, longest, answer_in
 use Rattle.tree.specs.declared.Answer.{Answer}
 use Rattle.tree.specs.declared.Answer.TheVariants.{Admitted}
 use Rattle.tree.specs.Bounds.{tree_short}
-use Rattle.tree.specs.Walk.{refused, refuse, answer_of, Walks, resumed, resumed_next, resumed_refused, refused_answer}
+use Rattle.tree.specs.Walk.{refused, refuse, answer_of, Walks, resumed}
+use Rattle.tree.proofs.Walk.{resumed_next, resumed_refused, refused_answer}
 
 -- where records are left over, the index of the first stands for the answer
 left_over : (t x : List ℕ) (w : ℕ) → w < refused → w ≤ count t → (w ≡ count t → ⊥) → scan t x (count t - w) w [] ≡ answer_of w
