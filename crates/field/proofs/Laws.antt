@@ -11,7 +11,7 @@ use Rattle.mode.specs.declared.Mode.{Mode}
 use Rattle.record.specs.Record.{count}
 use Rattle.grammar.specs.Grammar.{root}
 use Rattle.tree.specs.Check.{place}
-use Rattle.tree.specs.Bounds.{admitted_short}
+use Rattle.tree.proofs.Bounds.{admitted_short}
 use Rattle.render.specs.Render as render
 use Rattle.render.specs.Laws.{measures_small}
 use Rattle.field.specs.Profile.{broken, profiled, ProfilesIn, place_of}

@@ -18,7 +18,7 @@ use Rattle.record.specs.Record.{record_at, count, mark_ok}
 use Rattle.grammar.specs.Grammar.{root}
 use Rattle.tree.specs.Check as tree
 use Rattle.tree.specs.Check.{Place, place, holds, fits, inside, swallows, misnames, faults_in, scan_in, malformed, longest, answer_in, ChecksIn}
-use Rattle.tree.specs.Bounds.{admitted_short}
+use Rattle.tree.proofs.Bounds.{admitted_short}
 use Rattle.tree.specs.declared.Answer.{Answer}
 use Rattle.tree.specs.declared.Answer.TheVariants.{Admitted, Malformed, TooLong, Broken, Mark, Misfit, Outside, Unclosed, NotRowid, Deep}
 use Rattle.rules.specs.Whole.{plain_looser, looser}

@@ -17,7 +17,7 @@ use Rattle.stream.specs.Laws.{count_fits}
 use Rattle.tree.specs.Check as tree
 use Rattle.tree.specs.Check.{ChecksIn}
 use Rattle.tree.proofs.Whole as whole
-use Rattle.tree.specs.Bounds.{place_small, admitted_short, number_small as tree-number-small}
+use Rattle.tree.proofs.Bounds.{place_small, admitted_short, number_small as tree-number-small}
 use Rattle.tree.specs.declared.Answer.{Answer}
 use Rattle.tokens.specs.Tokens.{tokens_of}
 use Rattle.tokens.proofs.Bound.{text_fits}

@@ -19,7 +19,7 @@ use Rattle.record.specs.Record.{record_at, count, mark_ok}
 use Rattle.grammar.specs.Grammar.{root}
 use Rattle.grammar.specs.Classes.{classes, class_at, root_at, root_is}
 use Rattle.tree.specs.Check.{Place, place, holds, fits, inside, swallows, misnames, deepest, faults_in, scan_in, scan, malformed, longest, answer_in, answer_to, ChecksIn, number_of}
-use Rattle.tree.specs.Bounds.{tree_short}
+use Rattle.tree.proofs.Bounds.{tree_short}
 use Rattle.tree.specs.declared.Answer.{Answer}
 use Rattle.tree.specs.declared.Answer.TheVariants.{Malformed, TooLong, Broken, Mark, Misfit, Outside, Unclosed, NotRowid, Deep}
 use Rattle.rules.specs.Rules.{rule_at, sound_to, sound_within}

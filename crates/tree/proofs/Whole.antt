@@ -13,7 +13,7 @@ use Rattle.grammar.specs.Classes.{class_at, root_at, root_is}
 use Rattle.tree.specs.Check.{place, scan_in, scan, malformed, longest, answer_in, ChecksIn}
 use Rattle.tree.specs.declared.Answer.{Answer}
 use Rattle.tree.specs.declared.Answer.TheVariants.{Admitted}
-use Rattle.tree.specs.Bounds.{tree_short}
+use Rattle.tree.proofs.Bounds.{tree_short}
 use Rattle.tree.specs.Walk.{refused, refuse, answer_of, Walks, resumed}
 use Rattle.tree.proofs.Walk.{resumed_next, resumed_refused, refused_answer}
 

@@ -1,7 +1,7 @@
 -- `render::jobs::render_ample` meets its contract: ample room has room for the text.
 use mathlib.Core.Path.{◌≡◌, sym, ◌∙◌}
 use native.Mathlib.Omega.{arith}
-use Rattle.tree.specs.Bounds.{admitted_short}
+use Rattle.tree.proofs.Bounds.{admitted_short}
 use Rattle.admitted.proofs.Ample.{ample}
 use Rattle.render.specs.Laws.{measured_all, length_is, written}
 use borrow.Author.Rules.{rules}
