@@ -59,7 +59,7 @@ impl Definitions {
         for (number, &colon) in colons.iter().enumerate() {
             let end = colons.get(number + 1).map_or(words.len(), |next| next - 1);
             let arrows = words[colon..end].iter().filter(|word| *word == "→");
-            let name = words[colon - 1].trim_matches('_').to_string();
+            let name = words[colon - 1].trim_matches('◌').to_string();
             self.constructors.insert(name, arrows.count());
         }
         Ok(())

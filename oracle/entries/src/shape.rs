@@ -87,7 +87,7 @@ fn class_of(value: &Value) -> Result<Class, String> {
     Ok(match (name.as_str(), &parts[..]) {
         ("one", [ks]) => Class::One(kinds(ks)?),
         ("list", [class]) => Class::List(Box::new(class_of(class)?)),
-        ("oneOr", [ks, class]) => Class::OneOr(kinds(ks)?, Box::new(class_of(class)?)),
+        ("one_or", [ks, class]) => Class::OneOr(kinds(ks)?, Box::new(class_of(class)?)),
         ("small", []) => Class::Small,
         _ => return Err(format!("not a class: {name}")),
     })
