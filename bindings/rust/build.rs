@@ -4,7 +4,7 @@ use std::path::PathBuf;
 use std::{env, process};
 
 const ARCHIVE: &str = "libkinyandoma.a";
-/// Where `rt staticlib` writes, from the repository's root.
+/// Where `tools/archive` writes, from the repository's root.
 const WRITTEN: &str = "target/staticlib";
 /// The library's code is for this architecture.
 const ARCHITECTURE: &str = "x86_64";
