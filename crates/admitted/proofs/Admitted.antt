@@ -9,8 +9,7 @@ use Rattle.std.proofs.Math.Bool.{true}
 use Rattle.stream.specs.Stream as stream
 use Rattle.record.specs.Record.{count}
 use Rattle.grammar.specs.Grammar.{shape}
-use Rattle.tree.specs.Check.{Checks}
-use Rattle.tree.specs.declared.Answer.TheVariants.{Admitted}
+use Rattle.tree.specs.Check.{Admitted, Checks}
 use Rattle.tokens.specs.Tokens.{Source, Out, at, behind, node, deepest, whole, tokens_of, text_of}
 use Rattle.admitted.specs.Watched.{levels, passed, whole_by}
 use Rattle.admitted.specs.Watched.{watched_whole}

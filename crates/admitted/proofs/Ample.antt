@@ -4,27 +4,25 @@
 -- and `each_slot` for each child, since it has as many children as its entry has slots.
 use Prim.Native.Nat.{ℕ, zero, suc, ◌+◌, ◌*◌, ◌≤◌, ◌<◌}
 use native.Mathlib.Omega.{arith}
-use Rattle.std.specs.Prelude.{◌≡◌, refl, Bool, true, false, not, cond, ◌&&◌, eqb, ltb, length, get_or}
+use Rattle.std.specs.Prelude.{◌≡◌, refl, Bool, true, false, not, cond, ◌&&◌, eqb, ltb, length, get_or, Ok, Err}
 use Rattle.std.proofs.Common.{◌∙◌, ap, sym, eqb-true}
 use mathlib.Core.List.{List, [], ◌∷◌, ◌++◌, map}
-use Rattle.std.proofs.Math.Bool.{false≢true}
 use Rattle.std.proofs.lemmas.Bool.{eqb-false, not-false}
 use Rattle.mode.specs.Options.{is_sqlite}
 use Rattle.mode.specs.declared.Mode.{Mode}
 use Rattle.mode.specs.declared.Edition.{Edition}
-use Rattle.utf8.specs.Rfc3629 as utf8
-use Rattle.utf8.specs.declared.Encoding.{Encoding}
+use Rattle.utf8.specs.Rfc3629.{Encoding}
+use Rattle.utf8.specs.declared.Broken.TheVariants.{Bad, Cut}
 use Rattle.record.specs.Record.{record_at, count, mark_ok}
 use Rattle.record.specs.declared.Record.{Record}
 use Rattle.grammar.specs.Kind.{LIST, RUN}
 use Rattle.grammar.specs.Shape.{Class}
 use Rattle.grammar.specs.Grammar.{root, shape}
-use Rattle.tree.specs.Check.{Place, place, holds, fits, inside, swallows, misnames, deepest, faults_in, scan_in, malformed, longest, answer_in, ChecksIn, number_of}
+use Rattle.tree.specs.Check.{Answer, Place, place, holds, fits, inside, swallows, misnames, deepest, faults_in, scan_in, malformed, longest, or_broken, answer_in, ChecksIn, number_of}
 use Rattle.tree.proofs.Steps.{kids_are}
-use Rattle.tree.specs.declared.Answer.{Answer}
-use Rattle.tree.specs.declared.Answer.TheVariants.{Malformed, TooLong, Broken, Mark, Misfit, Outside, Unclosed, NotRowid, Deep}
+use Rattle.tree.specs.declared.Refusal.TheVariants.{Malformed, TooLong, Mark, Misfit, Outside, Unclosed, NotRowid, Deep}
 use Rattle.tokens.specs.Tokens.{Source, in_edition, part, text_of}
-use Rattle.tokens.specs.Ample.{sum, sum_next, lengths, ample_for}
+use Rattle.tokens.specs.Ample.{sum_next, lengths, ample_for}
 use Rattle.tokens.specs.Weights.{base, around, own, each_slot, shape_affordable, cut_short}
 use Rattle.tokens.specs.Bound.{pays, paid}
 use Rattle.tokens.proofs.Bound.{text_paid}
@@ -55,6 +53,12 @@ counts_on t n i d c ps f rest =
     by j l h true q = record { class = c; fit = rw (eqb-true j i q) f }
     by j l h false q = let apart = eqb-false j i q in rest.each j (omega arith) (omega arith)
 
+-- a text that is broken is refused
+unbroken : (e : Encoding) (a : Answer) → number_of (or_broken e a) ≡ 0 → number_of a ≡ 0
+unbroken (Ok u) a z = z
+unbroken (Err (Bad p)) a z = absurd (omega arith)
+unbroken (Err (Cut p)) a z = absurd (omega arith)
+
 module _ (m : Mode) (t x : List ℕ) where
   scan_counts : (n i : ℕ) (ps : List Place) → number_of (scan_in m t x n i ps) ≡ 0 → Counted t n i ps
   unfolding scan_in faults_in
@@ -64,22 +68,21 @@ module _ (m : Mode) (t x : List ℕ) where
   scan_counts (suc n) i (p ∷ ps) z =
       let r = record_at t i in
       let c = p.class in
-      let mark = passes (not (mark_ok r)) (Mark i) _ (λ _ q. omega arith) z in
-      let misfit = passes (not (fits c r)) (Misfit i) _ (λ _ q. omega arith) mark.1 in
-      let outside = passes (not (inside x r)) (Outside i) _ (λ _ q. omega arith) misfit.1 in
-      let unclosed = passes (m.strict && swallows x c r) (Unclosed i) _ (λ _ q. omega arith) outside.1 in
-      let other = passes (is_sqlite m.edition && misnames x c r) (NotRowid i) _ (λ _ q. omega arith) unclosed.1 in
-      let deep = passes (ltb deepest p.depth) (Deep i) _ (λ _ q. omega arith) other.1 in
+      let mark = passes (not (mark_ok r)) (Err (Mark i)) _ (λ _ q. omega arith) z in
+      let misfit = passes (not (fits c r)) (Err (Misfit i)) _ (λ _ q. omega arith) mark.1 in
+      let outside = passes (not (inside x r)) (Err (Outside i)) _ (λ _ q. omega arith) misfit.1 in
+      let unclosed = passes (m.strict && swallows x c r) (Err (Unclosed i)) _ (λ _ q. omega arith) outside.1 in
+      let other = passes (is_sqlite m.edition && misnames x c r) (Err (NotRowid i)) _ (λ _ q. omega arith) unclosed.1 in
+      let deep = passes (ltb deepest p.depth) (Err (Deep i)) _ (λ _ q. omega arith) other.1 in
       counts_on t n i p.depth c ps (not-false (fits c r) misfit.0) (scan_counts n (i + 1) _ deep.1)
 
   -- 1, 2 and the encoding come before the records
   answer_counts : (e : Encoding) → number_of (answer_in m e t x) ≡ 0 → Counted t (count t) 0 (place 1 root ∷ [])
   unfolding answer_in
   answer_counts e z =
-      let mal = passes (malformed t) Malformed _ (λ _ q. omega arith) z in
-      let long = passes (ltb longest (length x)) TooLong _ (λ _ q. omega arith) mal.1 in
-      let broken = passes (not (eqb (utf8.number e) 0)) (Broken e) _ (λ b q. false≢true (rw q at b)) long.1 in
-      scan_counts (count t) 0 (place 1 root ∷ []) broken.1
+      let mal = passes (malformed t) (Err Malformed) _ (λ _ q. omega arith) z in
+      let long = passes (ltb longest (length x)) (Err TooLong) _ (λ _ q. omega arith) mal.1 in
+      scan_counts (count t) 0 (place 1 root ∷ []) (unbroken e _ long.1)
 
 -- ---- what a record that fits pays: a LIST for its elements, a RUN nothing, and the others for the words of their entries
 fit_pays : (e : Source) (r : Record) → Fit r → pays e r ≤ own + each_slot * r.kids + 2 * r.len

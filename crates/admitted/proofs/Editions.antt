@@ -12,24 +12,20 @@ use mathlib.Core.List.{List, [], ◌∷◌, ◌++◌}
 use Rattle.std.proofs.Math.Bool.{true, false, cond, or-true, and-false}
 use Rattle.std.proofs.lemmas.Bool.{false≢true}
 use Rattle.std.proofs.Math.Dec.{eqb}
-use Rattle.laws.specs.Little.{little}
 use Rattle.laws.specs.Text.{ascii}
 use Rattle.laws.specs.Tests.{and_parts}
-use Rattle.spelling.specs.Token.{TK_COMMA}
 use Rattle.mode.specs.declared.Edition.TheVariants.{Crate, Sqlite}
 use Rattle.stream.specs.Stream as stream
 use Rattle.stream.specs.Stream.{Token}
 use Rattle.stream.specs.Doubled.{has_quote, doubled_none}
 use Rattle.record.specs.Record.{count, bytes_at, record_at}
 use Rattle.record.specs.declared.Record.{Record}
-use Rattle.grammar.specs.Kind.{NONE, LIST, TOKEN, RUN, TEXT, ColumnsAndConstraints, OperatorClause, NamedTableConstraint, REPLACE}
+use Rattle.grammar.specs.Kind.{NONE, TEXT, ColumnsAndConstraints, OperatorClause, REPLACE}
 use Rattle.grammar.specs.Shape.{Shape, nothing, token, ident, word, said, line, when, is, slot, each, commas, row, lines, tuples, given, filled, replacing, decimal, brackets, quoted, rowid, source, both, later, ◌·◌}
-use Rattle.grammar.specs.Grammar.{text, maybe, column_definition, parens, shape}
-use Rattle.grammar.specs.Grammar.{node as node_of}
+use Rattle.grammar.specs.Grammar.{text, maybe, shape}
 use Rattle.grammar.specs.Slots.{allowed}
 use Rattle.grammar.specs.Entries.{entry}
-use Rattle.tree.specs.Check.{Checks}
-use Rattle.tree.specs.declared.Answer.TheVariants.{Admitted}
+use Rattle.tree.specs.Check.{Admitted, Checks}
 use Rattle.tokens.specs.Corners.{id, inner, quote, without}
 use Rattle.tokens.specs.Tokens.{Source, in_edition, Out, at, behind, part, token_of, flagged, say, of, then, rows, listed, placed, checked, anything, between, means, node, deepest, whole, tokens_of, text_of}
 use Rattle.admitted.specs.Watched.{whole_by}

@@ -1,34 +1,32 @@
 -- The check's scan, from an index on: the records that are left fill the places that are still to be filled.
 -- If they do, the record at the index stands in the first place with no fault, and those behind it fill its children's places and the others.
 -- With no place left, the index is the tree's end.
-use Rattle.std.specs.Prelude.{ℕ, zero, suc, ◌+◌, ◌-◌, ◌≤◌, ◌<◌, ◌≡◌, refl, List, [], ◌∷◌, ◌++◌, map, Bool, true, false, not, cond, ◌&&◌, eqb, ltb, length, replicate}
+use Rattle.std.specs.Prelude.{ℕ, zero, suc, ◌+◌, ◌-◌, ◌<◌, ◌≡◌, refl, List, [], ◌∷◌, Bool, true, false, not, cond, ◌&&◌, eqb, ltb, length, replicate, Ok, Err}
 use native.Mathlib.Omega.{arith}
 use Rattle.std.proofs.Common.{sym, eqb-true, ltb-false}
 use Rattle.std.proofs.lemmas.Bool.{false≢true, not-false}
 use Rattle.laws.specs.First.{first}
 use Rattle.laws.specs.Tests.{and_left}
-use Rattle.utf8.specs.Rfc3629 as utf8
-use Rattle.utf8.specs.declared.Encoding.{Encoding}
+use Rattle.utf8.specs.Rfc3629.{Encoding}
 use Rattle.record.specs.Record.{count, mark_ok}
 use Rattle.record.specs.declared.Record.{Record}
 use Rattle.grammar.specs.Kind.{NONE, LIST, TOKEN, RUN}
 use Rattle.grammar.specs.Shape.{Class, one}
 use Rattle.grammar.specs.Grammar.{root, shape}
 use Rattle.grammar.specs.Slots.{slots_of, allowed, elements}
-use Rattle.tree.specs.Check.{Place, place, holds, fits, inside, faults_in, scan_in, scan, deepest, malformed, longest, answer_in, Checks}
-use Rattle.tree.specs.declared.Answer.{Answer}
-use Rattle.tree.specs.declared.Answer.TheVariants.{Admitted, Malformed, TooLong, Broken, Mark, Misfit, Outside, Deep}
+use Rattle.tree.specs.Check.{Answer, Admitted, Place, place, holds, fits, inside, faults_in, scan_in, scan, deepest, malformed, longest, or_broken, answer_in, Checks}
+use Rattle.tree.specs.declared.Refusal.TheVariants.{Malformed, TooLong, Mark, Misfit, Outside, Deep}
 use Rattle.tokens.specs.Tokens.{Source, at, behind}
 use Rattle.admitted.specs.Tame.{barren, slots, barren_place}
 use Rattle.admitted.proofs.Tame.{barren_kind, none_held}
 use Rattle.admitted.specs.Fills.{Filled, Fills}
 
-no_fault : (m f o d : Bool) (i : ℕ) (a : Answer) → first ((m, Mark i) ∷ (f, Misfit i) ∷ (o, Outside i) ∷ (d, Deep i) ∷ []) a ≡ Admitted
+no_fault : (m f o d : Bool) (i : ℕ) (a : Answer) → first ((m, Err (Mark i)) ∷ (f, Err (Misfit i)) ∷ (o, Err (Outside i)) ∷ (d, Err (Deep i)) ∷ []) a ≡ Admitted
     → (f ≡ false) × (d ≡ false) × (a ≡ Admitted)
-no_fault true f o d i a h = let z : ◌≡◌ {A = ℕ} 0 1 = cc in absurd (omega arith)
-no_fault false true o d i a h = let z : ◌≡◌ {A = ℕ} 0 1 = cc in absurd (omega arith)
-no_fault false false true d i a h = let z : ◌≡◌ {A = ℕ} 0 1 = cc in absurd (omega arith)
-no_fault false false false true i a h = let z : ◌≡◌ {A = ℕ} 0 1 = cc in absurd (omega arith)
+no_fault true f o d i a h = absurd (cc)
+no_fault false true o d i a h = absurd (cc)
+no_fault false false true d i a h = absurd (cc)
+no_fault false false false true i a h = absurd (cc)
 no_fault false false false false i a h = (refl, refl, h)
 
 pub fill : {e : Source} {j d : ℕ} {c : Class} {ps : List Place} → Fills e (place d c ∷ ps) j → Filled e d c ps j
@@ -39,7 +37,7 @@ fill {e} {j} {d} {c} {ps} h = by (count e.tree - j) refl h.admits
     r = at e j
 
     by : (n : ℕ) → count e.tree - j ≡ n → scan e.tree e.text n j (place d c ∷ ps) ≡ Admitted → Filled e d c ps j
-    by zero q a = let z : ◌≡◌ {A = ℕ} 0 1 = cc in absurd (omega arith)
+    by zero q a = absurd (cc)
     by (suc n) q a =
         let p = no_fault (not (mark_ok r)) (not (fits c r)) (not (inside e.text r)) (ltb deepest d) j _ a in
         let m : n ≡ count e.tree - (j + 1) = omega arith in
@@ -57,7 +55,7 @@ at_end {e} {j} h = by (count e.tree - j) refl h.admits
   where
     by : (n : ℕ) → count e.tree - j ≡ n → scan e.tree e.text n j [] ≡ Admitted → j ≡ count e.tree
     by zero q a = omega (arith, h.within)
-    by (suc n) q a = let z : ◌≡◌ {A = ℕ} 0 1 = cc in absurd (omega arith)
+    by (suc n) q a = absurd (cc)
 
 pub fit_allowed : (c : Class) (r : Record) → fits c r ≡ true → allowed c r.kind ≡ true
 unfolding fits
@@ -103,11 +101,11 @@ module _ (e : Source) where
   past_leaf {c = c} b j h = past_childless (fill h) (barren_holds c (at e j) (barren_kind c (at e j).kind b (stands h)))
 
 -- ---- a tree that the check admits
-early : (m l b : Bool) (e : Encoding) (a : Answer) → first ((m, Malformed) ∷ (l, TooLong) ∷ (b, Broken e) ∷ []) a ≡ Admitted → a ≡ Admitted
-early true l b e a h = let z : ◌≡◌ {A = ℕ} 0 1 = cc in absurd (omega arith)
-early false true b e a h = let z : ◌≡◌ {A = ℕ} 0 1 = cc in absurd (omega arith)
-early false false true e a h = let z : ◌≡◌ {A = ℕ} 0 1 = cc in absurd (omega arith)
-early false false false e a h = h
+early : (m l : Bool) (e : Encoding) (a : Answer) → first ((m, Err Malformed) ∷ (l, Err TooLong) ∷ []) (or_broken e a) ≡ Admitted → a ≡ Admitted
+early true l e a h = absurd (cc)
+early false true e a h = absurd (cc)
+early false false (Err b) a h = absurd (cc)
+early false false (Ok u) a h = h
 
 pub root_filled : (e : Source) → Checks e.tree e.text Admitted → Fills e (place 1 root ∷ []) 0
 unfolding answer_in
@@ -116,5 +114,5 @@ root_filled e h =
     let z : count e.tree - 0 ≡ count e.tree = omega arith in
     record {
       within = omega arith;
-      admits = rw z (early (malformed e.tree) (ltb longest (length e.text)) (not (eqb (utf8.number c) 0)) c _ (sym h.answers));
+      admits = rw z (early (malformed e.tree) (ltb longest (length e.text)) c _ (sym h.answers));
     }

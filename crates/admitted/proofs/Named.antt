@@ -1,6 +1,6 @@
 -- 02, xiii: "bytes nobody named". What a tree writes hangs on the parts of the text that its records name, and on no other byte, in both editions. One
 -- induction over shapes: a shape reads a part only of a record that names it. It holds of every tree, admitted or not, and of texts of any length.
-use Prim.Native.Nat.{ℕ, zero, suc, ◌<◌}
+use Prim.Native.Nat.{ℕ, zero, suc}
 use Rattle.std.specs.Prelude.{◌≡◌, ◌&&◌, eqb, leb}
 use Rattle.std.proofs.Math.Path.{refl, ap, ap₂, fun_ext}
 use Rattle.std.proofs.Common.{◌∙◌, eqb-true, ltb-true, ltb-false}
@@ -12,16 +12,15 @@ use Rattle.laws.specs.Tests.{and_left, and_right}
 use Rattle.stream.specs.Stream as stream
 use Rattle.stream.specs.Stream.{Token}
 use Rattle.stream.specs.Sink as sink
-use Rattle.record.specs.Record.{part, record_at, count}
+use Rattle.record.specs.Record.{record_at, count}
 use Rattle.record.specs.Laws.{past}
-use Rattle.record.specs.declared.Record.{Record}
 use Rattle.grammar.specs.Kind.{NONE, LIST, TOKEN, TEXT, REPLACE}
 use Rattle.grammar.specs.Shape.{Class, one, Shape, nothing, token, ident, word, said, line, when, is, slot, each, commas, row, lines, tuples, given, filled, replacing, decimal, brackets, quoted, rowid, source, both, later, ◌·◌}
 use Rattle.grammar.specs.Grammar.{run, root, root_kinds, shape}
 use Rattle.grammar.specs.Slots.{allowed}
 use Rattle.tree.specs.Check.{has_part}
 use Rattle.tokens.specs.Corners.{id, valued, newline, without, sourced, quote}
-use Rattle.tokens.specs.Tokens.{in_edition, Out, at, behind, token_of, flagged, say, of, then, rows, listed, placed, of_kind, comma, bracketed, checked, means, leaf, node, deepest, whole, tokens_of, text_of}
+use Rattle.tokens.specs.Tokens.{in_edition, Out, behind, token_of, flagged, say, of, then, rows, listed, placed, of_kind, comma, bracketed, checked, means, leaf, node, deepest, whole, tokens_of, text_of}
 use Rattle.grammar.specs.Entries.{entry}
 use Rattle.mode.specs.declared.Edition.{Edition}
 use Rattle.admitted.specs.Same.{joined}

@@ -2,10 +2,10 @@
 use Prim.Native.Nat.{ℕ, zero, suc}
 use Rattle.std.specs.Prelude.{◌≡◌, refl, Bool, true, false, cond}
 use Rattle.std.proofs.Common.{◌∙◌, ap}
-use mathlib.Core.List.{List, [], ◌++◌}
+use mathlib.Core.List.{List, []}
 use Rattle.stream.specs.Stream.{Token}
 use Rattle.mode.specs.declared.Edition.{Edition}
-use Rattle.tokens.specs.Tokens.{Source, Out, behind, say, of, then, between, rows, checked}
+use Rattle.tokens.specs.Tokens.{Source, Out, behind, say, of, then, rows, checked}
 use Rattle.admitted.specs.Same.{Same, joined, swapped}
 
 pub says : {P : ℕ → Type 0} (ts : List Token) (j : ℕ) → P j → Same P (say ts j) (say ts j)

@@ -1,19 +1,19 @@
 -- What the grammar must say for the walk and the check to go along the same records, computed over its entries: slots are held whatever the
 -- flags are, what may be left out is one child, and a LIST is written only where it is a LIST that is held.
-use Rattle.std.specs.Prelude.{ℕ, ◌≡◌, refl, List, [], ◌∷◌, Bool, true, false, not, ◌&&◌, ◌||◌, eqb, length}
+use Rattle.std.specs.Prelude.{ℕ, ◌≡◌, refl, List, [], ◌∷◌, Bool, true, false, not, ◌||◌, eqb, length}
 use Rattle.std.proofs.Common.{arith, eqb-true}
 use Rattle.std.proofs.lemmas.Bool.{false≢true, not-true}
 use Rattle.std.proofs.Math.Bool.{or-true}
-use Rattle.laws.specs.Among.{all, each as each-among}
+use Rattle.laws.specs.Among.{each as each-among}
 use Rattle.laws.specs.Tests.{and_left, and_right}
 use Rattle.grammar.specs.Kind.{NONE, LIST, RUN, TEXT, NUMBER}
-use Rattle.grammar.specs.Shape.{Class, one, list, one_or, small, ruled, Shape, nothing, token, ident, word, said, line, when, is, slot, each, commas, row, lines, tuples, given, filled, replacing, decimal, brackets, quoted, rowid, source, both, later, ◌·◌}
+use Rattle.grammar.specs.Shape.{Class, one, list, one_or, small, ruled}
 use Rattle.grammar.specs.Grammar.{shape}
 use Rattle.grammar.specs.Slots.{slots_of, allowed}
 use Rattle.grammar.specs.Packed.{same_class}
 use Rattle.grammar.specs.Laws.{same_all}
 use Rattle.grammar.specs.Entries.{entry}
-use Rattle.admitted.specs.Tame.{barren, barren_place, plain, slots, tame}
+use Rattle.admitted.specs.Tame.{barren, barren_place, plain, tame}
 
 -- all entries but a RUN's, which holds TOKENs and no slots
 pub tamed : (k : ℕ) → eqb k RUN ≡ false → tame (shape k) ≡ true

@@ -1,7 +1,7 @@
 -- The walk of tokens/Tokens over again, with two things left open: what is written of a record whose kind may not stand in its place,
 -- which `u` says, and of a record below so many levels, which `f` says. `means` passes over the one, and `node` writes nothing of the other.
 -- So where all u and f come to the same, neither was asked for.
-use Prim.Native.Nat.{ℕ, zero, suc}
+use Prim.Native.Nat.{ℕ}
 use Rattle.std.specs.Prelude.{◌≡◌, Bool, true, false, ◌&&◌, ◌||◌, eqb, ltb}
 use Rattle.std.proofs.Math.Path.{refl, ap, ap₂, fun_ext}
 use Rattle.std.proofs.Common.{◌∙◌, eqb-true}
@@ -10,8 +10,8 @@ use Rattle.std.proofs.Math.Bool.{cond}
 use Rattle.stream.specs.Stream.{Token}
 use Rattle.record.specs.declared.Record.{Record}
 use Rattle.grammar.specs.Kind.{NONE, LIST, TOKEN, TEXT, NUMBER, REPLACE}
-use Rattle.grammar.specs.Shape.{Class, one, list, small, check_source, without_rowid, ruled, Shape, nothing, token, ident, word, said, line, when, is, slot, each, commas, row, lines, tuples, given, filled, replacing, decimal, brackets, quoted, rowid, source, both, later, ◌·◌}
-use Rattle.grammar.specs.Grammar.{run, text, number, maybe, root, root_kinds, shape}
+use Rattle.grammar.specs.Shape.{Class, one, list, small, without_rowid, ruled, Shape, nothing, token, ident, word, said, line, when, is, slot, each, commas, row, lines, tuples, given, filled, replacing, decimal, brackets, quoted, rowid, source, both, later, ◌·◌}
+use Rattle.grammar.specs.Grammar.{run, text, number, maybe, root, root_kinds}
 use Rattle.grammar.specs.Slots.{slots_of, allowed}
 use Rattle.tokens.specs.Corners.{valued, newline, sourced}
 use Rattle.tokens.specs.Tokens.{Source, Out, at, behind, part, token_of, flagged, say, of, then, rows, listed, placed, of_kind, comma, bracketed, checked, means}

@@ -2,19 +2,17 @@
 -- which `u` says, and of a record below so many levels, which `f` says. `means` passes over the one, and `node` writes nothing of the other.
 -- So where all u and f come to the same, neither was asked for.
 use Prim.Native.Nat.{ℕ, zero, suc}
-use Rattle.std.specs.Prelude.{◌≡◌, Bool, true, false, ◌&&◌, ◌||◌, eqb, ltb}
-use Rattle.std.proofs.Math.Path.{refl, ap, ap₂, fun_ext}
-use Rattle.std.proofs.Common.{◌∙◌, eqb-true}
-use mathlib.Core.List.{List, [], ◌∷◌, ◌++◌, append-nil}
+use Rattle.std.specs.Prelude.{eqb}
+use mathlib.Core.List.{List, [], ◌∷◌, ◌++◌}
 use Rattle.std.proofs.Math.Bool.{cond}
 use Rattle.stream.specs.Stream.{Token}
 use Rattle.record.specs.declared.Record.{Record}
-use Rattle.grammar.specs.Kind.{NONE, LIST, TOKEN, TEXT, NUMBER, REPLACE}
+use Rattle.grammar.specs.Kind.{NONE, LIST, TOKEN, REPLACE}
 use Rattle.grammar.specs.Shape.{Class, one, list, small, check_source, without_rowid, ruled, Shape, nothing, token, ident, word, said, line, when, is, slot, each, commas, row, lines, tuples, given, filled, replacing, decimal, brackets, quoted, rowid, source, both, later, ◌·◌}
 use Rattle.grammar.specs.Grammar.{run, text, number, maybe, root, root_kinds, shape}
 use Rattle.grammar.specs.Slots.{slots_of, allowed}
-use Rattle.tokens.specs.Corners.{valued, newline, sourced}
-use Rattle.tokens.specs.Tokens.{Source, Out, at, behind, part, token_of, flagged, say, of, then, rows, listed, placed, of_kind, comma, bracketed, checked, means}
+use Rattle.tokens.specs.Corners.{valued, newline}
+use Rattle.tokens.specs.Tokens.{Source, Out, at, behind, token_of, flagged, say, of, then, rows, listed, placed, of_kind, comma, bracketed, checked, means}
 use Rattle.admitted.specs.Same.{joined}
 
 -- f, if the kind of the record at j may stand in the place c

@@ -1,5 +1,5 @@
 -- Laws of append, for the proofs of its functions.
-use Rattle.std.specs.Prelude.{ℕ, ◌+◌, ◌-◌, ◌≤◌, ◌≡◌, refl, List, [], ◌∷◌, Bool, true, false, ltb}
+use Rattle.std.specs.Prelude.{ℕ, ◌+◌, ◌-◌, ◌≤◌, ◌≡◌, refl, List, [], ◌∷◌, Bool, Ok, Err, true, false, ltb}
 use Rattle.std.proofs.Common.{arith, ◌∙◌, sym}
 use Rattle.std.proofs.Math.Path.{ap}
 use Rattle.std.proofs.Math.ListN.{length}
@@ -11,12 +11,10 @@ use Rattle.stream.specs.Stream.{adds, leaves}
 use Rattle.stream.specs.Sink.{State, most, pour, mark, step}
 use Rattle.stream.specs.Laws.{count_fits}
 use Rattle.append.specs.declared.Stream.{Stream}
-use Rattle.append.specs.declared.Answer.TheVariants.{Added, NoRoom}
-use Rattle.append.specs.declared.Check.{Check}
-use Rattle.append.specs.declared.Check.TheVariants.{Fine, Refused}
+use Rattle.append.specs.declared.Refusal.TheVariants.{NoRoom}
 use Rattle.append.specs.Ends.{token_lines, token_column, token_longer}
 use Rattle.append.specs.Append.{number_of, token_of, news, room, record_after, output_after}
-use Rattle.append.specs.Steps.{Verdict, Writes, emitted, moved_to, Ready}
+use Rattle.append.specs.Steps.{Check, Verdict, Writes, emitted, moved_to, Ready}
 use Rattle.append.specs.Laws.{Sound, is_sound, not_fine, passed, none_fits}
 
 -- ---- the bytes behind the count
@@ -40,7 +38,7 @@ module _ (rec : Stream) (out : List ℕ) (token : ℕ) (word value : List ℕ) (
   unfolding news
   put_moves = (omega (arith, put_counts), (sound.line, (sound.column, omega (arith, put_counts, token_longer rec.spaced token value ready.lent))))
 
-  left_is : moved_to rec x.0 value ≡ record_after (Added (length (news rec token value))) rec token value
+  left_is : moved_to rec x.0 value ≡ record_after (Ok (length (news rec token value))) rec token value
   unfolding moved_to record_after emitted step mark pour news adds leaves token_of
   left_is =
       let n = length (news rec token value) in
@@ -53,7 +51,7 @@ module _ (rec : Stream) (out : List ℕ) (token : ℕ) (word value : List ℕ) (
         token_column rec.spaced token value ready.lent rec.column,
       )
 
-  pub put_all : (left : Stream) → left ≡ moved_to rec x.0 value → Writes rec out token value (Added (x.0.at - rec.count)) left x.1
+  pub put_all : (left : Stream) → left ≡ moved_to rec x.0 value → Writes rec out token value (Ok (x.0.at - rec.count)) left x.1
   unfolding room output_after emitted step mark pour news adds token_of
   put_all left e =
       let new = news rec token value in
@@ -66,16 +64,16 @@ module _ (rec : Stream) (out : List ℕ) (token : ℕ) (word value : List ℕ) (
         writes = rw n (ap (λ (s : State). s.1) put_state ∙ sets-eq new out rec.count (omega arith));
       }
 
-pub all_ready : (rec : Stream) (out : List ℕ) (token : ℕ) (word value : List ℕ) (r : Check) → word ≡ spelling (number_of token) → Verdict rec (length out) token value r → r ≡ Fine
+pub all_ready : (rec : Stream) (out : List ℕ) (token : ℕ) (word value : List ℕ) (r : Check) → word ≡ spelling (number_of token) → Verdict rec (length out) token value r → r ≡ Ok tt
     → Ready rec out token word value
 all_ready rec out token word value r w v e =
     let f = none_fits rec (length out) token value r v e in
-    let p = passed rec (length out) token value Fine f.0 refl in
+    let p = passed rec (length out) token value (Ok tt) f.0 refl in
     record { sound = p.0; spells = w; lent = p.1; fits = by (ltb (length out - rec.count) n) refl f.1 }
   where
     n : ℕ
     n = length (news rec token value)
 
-    by : (b : Bool) → ltb (length out - rec.count) n ≡ b → Fine ≡ first ((b, Refused (NoRoom n)) ∷ []) Fine → n ≤ length out - rec.count
+    by : (b : Bool) → ltb (length out - rec.count) n ≡ b → ◌≡◌ {A = Check} (Ok tt) (first ((b, Err (NoRoom n)) ∷ []) (Ok tt)) → n ≤ length out - rec.count
     by true t q = absurd (not_fine (NoRoom n) (sym q))
     by false t q = ltb-false (length out - rec.count) n t

@@ -1,16 +1,21 @@
 -- 01, sections 1, 3 and 9, and 02, ix: what append answers, the record that it leaves and the bytes that it writes.
-use Rattle.std.specs.Prelude.{ℕ, ◌+◌, ◌-◌, ◌*◌, ◌%◌, ◌^◌, ◌≡◌, List, [], ◌∷◌, ◌++◌, Bool, not, ◌&&◌, ◌||◌, leb, ltb, eqb, length, take, drop}
-use Rattle.laws.specs.First.{first}
+use Rattle.std.specs.Prelude.{ℕ, ◌+◌, ◌-◌, ◌*◌, ◌%◌, ◌^◌, ◌≡◌, List, [], ◌∷◌, ◌++◌, Bool, Result, Ok, Err, not, ◌&&◌, ◌||◌, leb, ltb, eqb, length, take, drop}
+use Rattle.laws.specs.First.{first, within}
 use Rattle.utf8.specs.Rfc3629 as utf8
-use Rattle.utf8.specs.Rfc3629.{Encoded}
-use Rattle.utf8.specs.declared.Encoding.{Encoding}
+use Rattle.utf8.specs.Rfc3629.{Encoding, Encoded}
+use Rattle.utf8.specs.declared.Broken as utf8broken
+use Rattle.utf8.specs.declared.Broken.TheVariants.{Bad}
 use Rattle.spelling.specs.Spelling.{known}
 use Rattle.stream.specs.Stream.{Token, adds, leaves}
 use Rattle.stream.specs.Sink.{given}
 use Rattle.position.specs.Position.{lines, column}
 use Rattle.append.specs.declared.Stream.{Stream}
-use Rattle.append.specs.declared.Answer.{Answer}
-use Rattle.append.specs.declared.Answer.TheVariants.{Added, Malformed, Unknown, TooLong, Broken, NoRoom}
+use Rattle.append.specs.declared.Refusal.{Refusal}
+use Rattle.append.specs.declared.Refusal.TheVariants.{Malformed, Unknown, TooLong, Broken, NoRoom}
+
+-- so many bytes were added, or why none were
+abbrev pub Answer : Type 0
+Answer = Result ℕ Refusal
 
 -- a token is lent as a word, "a number as in TOKEN's flags" (bits 0-14 token number, bit 15 value present), and value bytes
 unfoldable pub number_of : ℕ → ℕ
@@ -33,51 +38,48 @@ longest = 65536
 unfoldable pub broken : Encoding → Bool
 broken e = not (eqb (utf8.number e) 0)
 
+-- how bytes are broken that are no text: asked of those alone
+abbrev pub fault : Encoding → utf8broken.Broken
+fault (Ok u) = Bad 0
+fault (Err b) = b
+
 -- 1: "its count past the output's end", and 02, ix: "if the line or the column is larger than the count of bytes written"
 unfoldable pub unsound : Stream → ℕ → Bool
 unsound rec size = ltb size rec.count || (ltb rec.count rec.line || ltb rec.count rec.column)
 
 -- "the first fitting refusal" and "Append checks 1, 4, 2, 8." The first three, for an output of so many bytes; e is what the encoding check answers
-unfoldable pub before : Encoding → Stream → ℕ → ℕ → List ℕ → List (Bool × Answer)
+unfoldable pub before : Encoding → Stream → ℕ → ℕ → List ℕ → List (Bool × Refusal)
 before e rec size token value =
     (unsound rec size, Malformed)
     ∷ (not (known (number_of token)), Unknown)
     ∷ (not (present token) && ltb 0 (length value), Unknown)
     ∷ (ltb longest (length value), TooLong)
-    ∷ (broken e, Broken e)
+    ∷ (broken e, Broken (fault e))
     ∷ []
 
 -- and then whether there is room for n bytes
 unfoldable pub room : Stream → ℕ → ℕ → Answer
-room rec size n = first ((ltb (size - rec.count) n, NoRoom n) ∷ []) (Added n)
+room rec size n = first ((ltb (size - rec.count) n, Err (NoRoom n)) ∷ []) (Ok n)
 
 unfoldable pub answer_to : Encoding → Stream → List ℕ → ℕ → List ℕ → Answer
 answer_to e rec out token value =
-    first (before e rec (length out) token value) (room rec (length out) (length (news rec token value)))
+    first (within Err (before e rec (length out) token value)) (room rec (length out) (length (news rec token value)))
 
 -- the bit, the count, and where the bytes end: their newlines are more lines, and the column goes on through them. A refusal leaves the record as it was
 unfoldable pub record_after : Answer → Stream → ℕ → List ℕ → Stream
-record_after (Added n) rec token value =
+record_after (Ok n) rec token value =
     record {
       spaced = leaves rec.spaced (token_of token value);
       count = rec.count + n;
       line = rec.line + lines (news rec token value);
       column = column rec.column (news rec token value);
     }
-record_after Malformed rec token value = rec
-record_after Unknown rec token value = rec
-record_after TooLong rec token value = rec
-record_after (Broken e) rec token value = rec
-record_after (NoRoom n) rec token value = rec
+record_after (Err r) rec token value = rec
 
 -- success writes exactly the bytes, at the count, and nothing beyond them; a refusal writes nothing
 unfoldable pub output_after : Answer → Stream → List ℕ → ℕ → List ℕ → List ℕ
-output_after (Added n) rec out token value = take rec.count out ++ news rec token value ++ drop (rec.count + n) out
-output_after Malformed rec out token value = out
-output_after Unknown rec out token value = out
-output_after TooLong rec out token value = out
-output_after (Broken e) rec out token value = out
-output_after (NoRoom n) rec out token value = out
+output_after (Ok n) rec out token value = take rec.count out ++ news rec token value ++ drop (rec.count + n) out
+output_after (Err r) rec out token value = out
 
 -- what append does: from record, output, token word and value to answer, record and output
 pub record Appends (rec : Stream) (out : List ℕ) (token : ℕ) (value : List ℕ) (answer : Answer) (rec' : Stream) (out' : List ℕ) : Type 0 where
@@ -89,20 +91,20 @@ pub record Appends (rec : Stream) (out : List ℕ) (token : ℕ) (value : List �
 
 -- section 3: the number and the place of each answer
 abbrev pub number : Answer → ℕ
-number (Added n) = 0
-number Malformed = 1
-number Unknown = 4
-number TooLong = 2
-number (Broken e) = utf8.number e
-number (NoRoom n) = 8
+number (Ok n) = 0
+number (Err Malformed) = 1
+number (Err Unknown) = 4
+number (Err TooLong) = 2
+number (Err (Broken b)) = utf8.number (Err b)
+number (Err (NoRoom n)) = 8
 
 abbrev pub place : Answer → ℕ
-place (Added n) = n
-place Malformed = 0
-place Unknown = 0
-place TooLong = longest
-place (Broken e) = utf8.place e
-place (NoRoom n) = n
+place (Ok n) = n
+place (Err Malformed) = 0
+place (Err Unknown) = 0
+place (Err TooLong) = longest
+place (Err (Broken b)) = utf8.place (Err b)
+place (Err (NoRoom n)) = n
 
 -- as one number across the boundary: number * 2^32 + place
 unfoldable pub code : Answer → ℕ

@@ -1,15 +1,14 @@
 -- Where a token's bytes end: its newlines are its value's, since a space, a spelling and the quotes of a missing blob have none.
 use Rattle.std.specs.Prelude.{ℕ, ◌+◌, ◌≤◌, ◌≡◌, refl, List, [], ◌∷◌, ◌++◌, Bool, true, false, not, cond, ◌&&◌, ◌||◌, ltb, eqb, length}
-use Rattle.std.proofs.Common.{arith, ◌∙◌, ap, sym, append-nil, append_assoc, length-append, eq-eqb, ne_eqb, eqb-true, lt-ltb}
+use Rattle.std.proofs.Common.{arith, ◌∙◌, ap, sym, append-nil, append_assoc, length-append, eqb-true, lt-ltb}
 use Rattle.std.proofs.lemmas.Bool.{false≢true, eqb-false}
-use Rattle.laws.specs.Among.{all}
 use Rattle.laws.specs.Tests.{and_left, and_right}
 use Rattle.laws.specs.Text.{ascii}
 use Rattle.blank.specs.Blank.{blank}
 use Rattle.spelling.specs.Token.{TK_BLOB}
 use Rattle.spelling.specs.Spelling.{spelling}
 use Rattle.spelling.specs.Laws.{solid, nonblank}
-use Rattle.stream.specs.Stream.{Value, tight, gap, blob, written, added, adds}
+use Rattle.stream.specs.Stream.{tight, gap, blob, written, added, adds}
 use Rattle.stream.specs.Sink.{given}
 use Rattle.position.specs.Position.{newline, lines, column}
 use Rattle.position.specs.Laws.{lines_append, column_append, column_on, column_anew}

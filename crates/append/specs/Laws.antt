@@ -1,36 +1,46 @@
 -- Laws of append, for the proofs of its functions.
-use Rattle.std.specs.Prelude.{ℕ, ◌+◌, ◌-◌, ◌^◌, ◌≤◌, ◌<◌, ◌≡◌, refl, List, [], ◌∷◌, Bool, true, false, not, cond, ◌&&◌, ◌||◌, ltb}
+use Rattle.std.specs.Prelude.{ℕ, ◌+◌, ◌-◌, ◌^◌, ◌≤◌, ◌<◌, ◌≡◌, refl, List, [], ◌∷◌, Bool, Ok, Err, Option, true, false, not, cond, ◌&&◌, ◌||◌, ltb}
 use Rattle.std.proofs.Common.{arith, ◌∙◌, sym, zero-add, suc-ne-zero}
 use Rattle.std.proofs.Math.Path.{ap}
 use Rattle.std.proofs.Math.Bool.{and-false}
 use Rattle.std.proofs.Math.ListN.{length}
-use borrow.Author.Tests.{lt-ltb, le-ltb, ltb-true, ltb-false, eq-eqb, ne_eqb}
+use borrow.Author.Tests.{lt-ltb, le-ltb, ltb-true, ltb-false}
+use Rattle.std.specs.Borrow.{Bor}
+use Rattle.std.specs.Bool.{then_some}
 use Rattle.utf8.specs.Rfc3629 as utf8
-use Rattle.utf8.specs.Rfc3629.{Text, none, Encoded}
+use Rattle.utf8.specs.Rfc3629.{Text, none, Encoding, Encoded}
 use Rattle.utf8.specs.Laws as utf8laws
 use Rattle.utf8.specs.Laws.{encoded_unique, place_within}
 use Rattle.utf8.proofs.Decided.{decided}
-use Rattle.utf8.specs.declared.Encoding.{Encoding}
-use Rattle.utf8.specs.declared.Encoding.TheVariants.{Valid}
+use Rattle.utf8.specs.declared.Broken as utf8broken
+use Rattle.utf8.specs.declared.Broken.TheVariants.{Bad, Cut}
 use Rattle.spelling.specs.Spelling.{known, spelling}
 use Rattle.laws.specs.Tests.{or_left, or_right}
-use Rattle.laws.specs.First.{first, within, first_some, first_none, all_passed}
+use Rattle.laws.specs.First.{first, within, all_passed}
 use Rattle.stream.specs.Stream.{added, adds}
-use Rattle.stream.specs.Sink.{State, most, pour, mark, step, given}
+use Rattle.stream.specs.Sink.{State, most, pour, mark, step, given, value_of}
 use Rattle.stream.specs.Laws.{count_fits}
 use Rattle.stream.specs.Length.{longest_token, adds_length, given_size}
 use Rattle.append.specs.declared.Stream.{Stream}
-use Rattle.append.specs.declared.Answer.{Answer}
-use Rattle.append.specs.declared.Answer.TheVariants.{Added, Malformed, Unknown, TooLong, Broken, NoRoom}
-use Rattle.append.specs.declared.Check.{Check}
-use Rattle.append.specs.declared.Check.TheVariants.{Fine, Refused}
-use Rattle.append.specs.Append.{Appends, number_of, present, token_of, news, longest, broken, unsound, before, room, answer_to, record_after, output_after, number, place}
-use Rattle.append.specs.Steps.{Checks, Ample, room_test, and_room, Verdict, Writes, emitted, counted}
+use Rattle.append.specs.declared.Refusal.{Refusal}
+use Rattle.append.specs.declared.Refusal.TheVariants.{Malformed, Unknown, TooLong, Broken, NoRoom}
+use Rattle.append.specs.Append.{Answer, Appends, fault, number_of, present, token_of, news, longest, broken, unsound, before, room, answer_to, record_after, output_after, number, place}
+use Rattle.append.specs.Steps.{Check, Checks, Ample, room_test, and_room, Verdict, Writes, emitted, counted}
 
 -- no bytes are a text
 no_bytes : (v : List ℕ) → length v ≡ 0 → Text v
 no_bytes [] e = none
 no_bytes (x ∷ v) e = absurd (suc-ne-zero (length v) e)
+
+-- bytes that are broken are refused, and how they are is not lost
+is_broken : (b : utf8broken.Broken) → broken (Err b) ≡ true
+unfolding broken
+is_broken (Bad p) = refl
+is_broken (Cut p) = refl
+
+fault_place : (e : Encoding) → utf8.place (Err (fault e)) ≡ utf8.place e
+fault_place (Ok u) = refl
+fault_place (Err b) = refl
 
 -- ---- a record that appends leave
 pub record Sound (rec : Stream) (size : ℕ) : Type 0 where
@@ -54,48 +64,62 @@ sound_is rec size s = rw (le-ltb size rec.count s.within, le-ltb rec.count rec.l
 
 -- ---- the refusals 1, 4, 2: each return is the first condition that holds
 module _ (rec : Stream) (size token : ℕ) (value : List ℕ) where
-  any : (r : Check) → ((e : Encoding) → r ≡ first (within Refused (before e rec size token value)) Fine) → Checks rec size token value r
+  any : (r : Check) → ((e : Encoding) → r ≡ first (within Err (before e rec size token value)) (Ok tt)) → Checks rec size token value r
   any r is = let d = decided value in record { encoding = d.0; encoded = d.1; is = is d.0 }
 
-  pub malformed : unsound rec size ≡ true → Checks rec size token value (Refused Malformed)
+  pub malformed : unsound rec size ≡ true → Checks rec size token value (Err Malformed)
   unfolding before
-  malformed h = any (Refused Malformed) (λ e. rw h)
+  malformed h = any (Err Malformed) (λ e. rw h)
 
   module _ (k : Bool) (c : unsound rec size ≡ false) (is_Known : k ≡ known (number_of token)) where
-    pub unknown : not k ≡ true → Checks rec size token value (Refused Unknown)
+    pub unknown : not k ≡ true → Checks rec size token value (Err Unknown)
     unfolding before
-    unknown h = any (Refused Unknown) (λ e. rw (c, ← is_Known, h))
+    unknown h = any (Err Unknown) (λ e. rw (c, ← is_Known, h))
 
     -- no value bytes, no more to refuse
-    pub empty : not k ≡ false → length value ≡ 0 → Checks rec size token value Fine
+    pub empty : not k ≡ false → length value ≡ 0 → Checks rec size token value (Ok tt)
     unfolding before broken
     empty kn z =
-        record { encoding = Valid; encoded = no_bytes value z; is = rw (c, ← is_Known, kn, z, and-false) }
+        record { encoding = Ok tt; encoded = no_bytes value z; is = rw (c, ← is_Known, kn, z, and-false) }
 
     module _ (p : Bool) (kn : not k ≡ false) (is-present : p ≡ present token) where
-      pub stray : not p ≡ true → (length value ≡ 0 → ⊥) → Checks rec size token value (Refused Unknown)
+      pub stray : not p ≡ true → (length value ≡ 0 → ⊥) → Checks rec size token value (Err Unknown)
       unfolding before
-      stray h s = any (Refused Unknown) (λ e. rw (c, ← is_Known, kn, ← is-present, h, lt-ltb 0 (length value) (omega arith)))
+      stray h s = any (Err Unknown) (λ e. rw (c, ← is_Known, kn, ← is-present, h, lt-ltb 0 (length value) (omega arith)))
 
       module _ (st : not p ≡ false) where
-        pub too_long : longest < length value → Checks rec size token value (Refused TooLong)
+        pub too_long : longest < length value → Checks rec size token value (Err TooLong)
         unfolding before
-        too_long h = any (Refused TooLong) (λ e. rw (c, ← is_Known, kn, ← is-present, st, lt-ltb longest (length value) h))
+        too_long h = any (Err TooLong) (λ e. rw (c, ← is_Known, kn, ← is-present, st, lt-ltb longest (length value) h))
 
-        module _ (e : Encoding) (m : ℕ) (l : length value ≤ longest) (en : Encoded value e) (is : m ≡ utf8.number e) where
-          pub ill : (m ≡ 0 → ⊥) → Checks rec size token value (Refused (Broken e))
-          unfolding before broken
-          ill h = record { encoding = e; encoded = en; is = rw (c, ← is_Known, kn, ← is-present, st, le-ltb longest (length value) l, ← is, ne_eqb m 0 h) }
+        module _ (e : Encoding) (l : length value ≤ longest) (en : Encoded value e) where
+          pub ill : (b : utf8broken.Broken) → e ≡ Err b → Checks rec size token value (Err (Broken b))
+          unfolding before
+          ill b h =
+              record {
+                encoding = Err b;
+                encoded = rw h at en;
+                is = rw (c, ← is_Known, kn, ← is-present, st, le-ltb longest (length value) l, is_broken b);
+              }
 
-          pub fine : m ≡ 0 → Checks rec size token value Fine
+          pub fine : e ≡ Ok tt → Checks rec size token value (Ok tt)
           unfolding before broken
-          fine h = record { encoding = e; encoded = en; is = rw (c, ← is_Known, kn, ← is-present, st, le-ltb longest (length value) l, ← is, eq-eqb m 0 h) }
+          fine h =
+              record {
+                encoding = Ok tt;
+                encoded = rw h at en;
+                is = rw (c, ← is_Known, kn, ← is-present, st, le-ltb longest (length value) l);
+              }
 
 -- ---- the bytes
-pub emits : (x : State) (b p : Bool) (at : ℕ) (out value word : List ℕ) (token k : ℕ) → k ≡ number_of token → p ≡ present token
-    → x ≡ step (record { spaced = b; at = at }, out) k word (given p value) → x ≡ emitted b at out token word value
+value_given : (p : Bool) (value : Bor (List ℕ)) → value_of (then_some p value) ≡ given p value.now
+value_given true value = refl
+value_given false value = refl
+
+pub emits : (x : State) (b p : Bool) (at : ℕ) (out word : List ℕ) (value : Bor (List ℕ)) (v : Option (Bor (List ℕ))) (token k : ℕ) → k ≡ number_of token → p ≡ present token
+    → v ≡ then_some p value → x ≡ step (record { spaced = b; at = at }, out) k word (value_of v) → x ≡ emitted b at out token word value.now
 unfolding emitted
-emits x b p at out value word token k ek ep e = rw (ek, ep) at e
+emits x b p at out word value v token k ek ep ev e = rw (← ep, ← value_given p value, ← ev, ← ek) e
 
 -- the word that is looked up
 pub word_is : (word : List ℕ) (token k : ℕ) → k ≡ number_of token → word ≡ spelling k → word ≡ spelling (number_of token)
@@ -126,124 +150,117 @@ unfolding news token_of
 surely_fits rec token value n h = omega (arith, adds_length rec.spaced (token_of token value), given_size (present token) value)
 
 -- ---- 8, or not
-pub ample_room : (rec : Stream) (size token : ℕ) (value : List ℕ) → Ample rec size (length value) → Fine ≡ room_test rec size (length (news rec token value))
+pub ample_room : (rec : Stream) (size token : ℕ) (value : List ℕ) → Ample rec size (length value) → Ok tt ≡ room_test rec size (length (news rec token value))
 ample_room rec size token value a =
     let n = length (news rec token value) in
     rw (le-ltb (size - rec.count) n (surely_fits rec token value (size - rec.count) a.fits))
 
 module _ (rec : Stream) (size token : ℕ) (value : List ℕ) (n : ℕ) (e : n ≡ length (news rec token value)) where
-  pub full : size - rec.count < n → Refused (NoRoom n) ≡ room_test rec size (length (news rec token value))
+  pub full : size - rec.count < n → Err (NoRoom n) ≡ room_test rec size (length (news rec token value))
   full h = rw (← e, lt-ltb (size - rec.count) n h)
 
-  pub not_full : n ≤ size - rec.count → Fine ≡ room_test rec size (length (news rec token value))
+  pub not_full : n ≤ size - rec.count → Ok tt ≡ room_test rec size (length (news rec token value))
   not_full h = rw (← e, le-ltb (size - rec.count) n h)
 
 no_room : (rec : Stream) (out : List ℕ) (token : ℕ) (value : List ℕ) (n : ℕ) → n ≡ length (news rec token value) → length out - rec.count < n
-    → Writes rec out token value (NoRoom n) rec out
+    → Writes rec out token value (Err (NoRoom n)) rec out
 unfolding room record_after output_after
 no_room rec out token value n e h =
     record { answers = rw (← e, lt-ltb (length out - rec.count) n h); leave = refl; writes = refl }
 
 -- ---- the first fitting refusal, and where there is none
-same_refusal : (a b : Answer) → Refused a ≡ Refused b → a ≡ b
+same_refusal : (a b : Refusal) → ◌≡◌ {A = Check} (Err a) (Err b) → a ≡ b
 same_refusal a b e = cc
 
-pub not_fine : (a : Answer) → Refused a ≡ Fine → ⊥
+pub not_fine : (a : Refusal) → ◌≡◌ {A = Check} (Err a) (Ok tt) → ⊥
 not_fine a e = let z : ◌≡◌ {A = ℕ} 0 1 = cc in omega arith
 
--- a refusal leaves all as it was
-Kept : Stream → List ℕ → ℕ → List ℕ → Answer → Type 0
-Kept rec out token value a = (rec ≡ record_after a rec token value) × (out ≡ output_after a rec out token value)
+-- what is asked first, and then of what is left
+first_err : (cs : List (Bool × Refusal)) (a : Refusal) (o : Answer) → ◌≡◌ {A = Check} (Err a) (first (within Err cs) (Ok tt)) → Err a ≡ first (within Err cs) o
+first_err [] a o e = absurd (not_fine a e)
+first_err ((true, x) ∷ cs) a o e = ap (λ (r : Refusal). Err r) (same_refusal a x e)
+first_err ((false, x) ∷ cs) a o e = first_err cs a o e
 
-data Each (P : Answer → Type 0) : List (Bool × Answer) → Type 0 where
-  done : Each P []
-  also : {c : Bool × Answer} {cs : List (Bool × Answer)} → P c.1 → Each P cs → Each P (c ∷ cs)
+first_ok : (cs : List (Bool × Refusal)) (o : Answer) → ◌≡◌ {A = Check} (Ok tt) (first (within Err cs) (Ok tt)) → first (within Err cs) o ≡ o
+first_ok [] o e = refl
+first_ok ((true, x) ∷ cs) o e = absurd (not_fine x (sym e))
+first_ok ((false, x) ∷ cs) o e = first_ok cs o e
 
-of_first : (P : Answer → Type 0) (cs : List (Bool × Answer)) → Each P cs → (a : Answer) → Refused a ≡ first (within Refused cs) Fine → P a
-of_first P [] ps a e = absurd (not_fine a e)
-of_first P ((true, x) ∷ cs) (also p ps) a e = rw (same_refusal a x e) p
-of_first P ((false, x) ∷ cs) (also p ps) a e = of_first P cs ps a e
-
-keeps : (e : Encoding) (rec : Stream) (out : List ℕ) (token : ℕ) (value : List ℕ) → Each (Kept rec out token value) (before e rec (length out) token value)
-unfolding before Kept record_after output_after
-keeps e rec out token value = also (refl, refl) (also (refl, refl) (also (refl, refl) (also (refl, refl) (also (refl, refl) done))))
-
-pub refused : (rec : Stream) (out : List ℕ) (token : ℕ) (value : List ℕ) (r : Check) (a : Answer) → Checks rec (length out) token value r → r ≡ Refused a → Appends rec out token value a rec out
-unfolding Kept answer_to
+pub refused : (rec : Stream) (out : List ℕ) (token : ℕ) (value : List ℕ) (r : Check) (a : Refusal) → Checks rec (length out) token value r → r ≡ Err a → Appends rec out token value (Err a) rec out
+unfolding answer_to record_after output_after
 refused rec out token value r a c e =
     let k = c.encoding in
     let cs = before k rec (length out) token value in
-    let f = of_first (Kept rec out token value) cs (keeps k rec out token value) a (sym e ∙ c.is) in
     record {
       encoding = k;
       encoded = c.encoded;
-      answers = first_some Refused Fine same_refusal not_fine cs a (room rec (length out) (length (news rec token value))) (sym e ∙ c.is);
-      leave = f.0;
-      writes = f.1;
+      answers = first_err cs a (room rec (length out) (length (news rec token value))) (sym e ∙ c.is);
+      leave = refl;
+      writes = refl;
     }
 
 pub accepted : (rec : Stream) (out : List ℕ) (token : ℕ) (value : List ℕ) (r : Check) (a : Answer) (rec' : Stream) (out' : List ℕ)
-    → Checks rec (length out) token value r → r ≡ Fine → Writes rec out token value a rec' out' → Appends rec out token value a rec' out'
+    → Checks rec (length out) token value r → r ≡ Ok tt → Writes rec out token value a rec' out' → Appends rec out token value a rec' out'
 unfolding answer_to
 accepted rec out token value r a rec' out' c e w =
     let k = c.encoding in
-    let f = first_none Refused Fine same_refusal not_fine (before k rec (length out) token value) (room rec (length out) (length (news rec token value))) (sym e ∙ c.is) in
+    let f = first_ok (before k rec (length out) token value) (room rec (length out) (length (news rec token value))) (sym e ∙ c.is) in
     record { encoding = k; encoded = c.encoded; answers = w.answers ∙ sym f; leave = w.leave; writes = w.writes }
 
 -- none of them fits
-pub passed : (rec : Stream) (size token : ℕ) (value : List ℕ) (r : Check) → Checks rec size token value r → r ≡ Fine
+pub passed : (rec : Stream) (size token : ℕ) (value : List ℕ) (r : Check) → Checks rec size token value r → r ≡ Ok tt
     → (unsound rec size ≡ false) × (not (present token) && ltb 0 (length value) ≡ false)
 unfolding before
 passed rec size token value r c e =
-    let p = all_passed Refused Fine same_refusal not_fine (before c.encoding rec size token value) (sym e ∙ c.is) in
+    let p = all_passed {B = Check} Err (Ok tt) same_refusal not_fine (before c.encoding rec size token value) (sym e ∙ c.is) in
     (p.0, p.1.1.0)
 
-pub room_known : (rec : Stream) (size token : ℕ) (value : List ℕ) (r : Check) → Checks rec size token value r → r ≡ Fine → rec.count ≤ size
+pub room_known : (rec : Stream) (size token : ℕ) (value : List ℕ) (r : Check) → Checks rec size token value r → r ≡ Ok tt → rec.count ≤ size
 room_known rec size token value r c e = (is_sound rec size (passed rec size token value r c e).0).within
 
 -- ---- the first fitting one of all refusals
-pub early_refused : (rec : Stream) (size token : ℕ) (value : List ℕ) (r : Check) (a : Answer) → Checks rec size token value r → r ≡ Refused a → Verdict rec size token value (Refused a)
-early_refused rec size token value r a c e = record { early = Refused a; checks = rw e at c; is = refl }
+pub early_refused : (rec : Stream) (size token : ℕ) (value : List ℕ) (r : Check) (a : Refusal) → Checks rec size token value r → r ≡ Err a → Verdict rec size token value (Err a)
+early_refused rec size token value r a c e = record { early = Err a; checks = rw e at c; is = refl }
 
-pub then_room : (rec : Stream) (size token : ℕ) (value : List ℕ) (r s : Check) → Checks rec size token value r → r ≡ Fine
+pub then_room : (rec : Stream) (size token : ℕ) (value : List ℕ) (r s : Check) → Checks rec size token value r → r ≡ Ok tt
     → s ≡ room_test rec size (length (news rec token value)) → Verdict rec size token value s
-then_room rec size token value r s c e is = record { early = Fine; checks = rw e at c; is = is }
+then_room rec size token value r s c e is = record { early = Ok tt; checks = rw e at c; is = is }
 
 -- whether there is room, where none of the others fits
-tested : (rec : Stream) (out : List ℕ) (token : ℕ) (value : List ℕ) (r : Check) (a : Answer) → Checks rec (length out) token value Fine
-    → r ≡ room_test rec (length out) (length (news rec token value)) → r ≡ Refused a → Appends rec out token value a rec out
+tested : (rec : Stream) (out : List ℕ) (token : ℕ) (value : List ℕ) (r : Check) (a : Refusal) → Checks rec (length out) token value (Ok tt)
+    → r ≡ room_test rec (length out) (length (news rec token value)) → r ≡ Err a → Appends rec out token value (Err a) rec out
 tested rec out token value r a c is e = by (ltb (length out - rec.count) n) refl is
   where
     n : ℕ
     n = length (news rec token value)
 
-    by : (b : Bool) → ltb (length out - rec.count) n ≡ b → r ≡ first ((b, Refused (NoRoom n)) ∷ []) Fine → Appends rec out token value a rec out
+    by : (b : Bool) → ltb (length out - rec.count) n ≡ b → r ≡ first ((b, Err (NoRoom n)) ∷ []) (Ok tt) → Appends rec out token value (Err a) rec out
     by true t q =
         rw (same_refusal a (NoRoom n) (sym e ∙ q))
-        (accepted rec out token value Fine (NoRoom n) rec out c refl (no_room rec out token value n refl (ltb-true (length out - rec.count) n t)))
+        (accepted rec out token value (Ok tt) (Err (NoRoom n)) rec out c refl (no_room rec out token value n refl (ltb-true (length out - rec.count) n t)))
     by false t q = absurd (not_fine a (sym e ∙ q))
 
-pub all_refused : (rec : Stream) (out : List ℕ) (token : ℕ) (value : List ℕ) (r : Check) (a : Answer) → Verdict rec (length out) token value r → r ≡ Refused a
-    → Appends rec out token value a rec out
+pub all_refused : (rec : Stream) (out : List ℕ) (token : ℕ) (value : List ℕ) (r : Check) (a : Refusal) → Verdict rec (length out) token value r → r ≡ Err a
+    → Appends rec out token value (Err a) rec out
 all_refused rec out token value r a v e = by v.early v.checks v.is
   where
-    by : (d : Check) → Checks rec (length out) token value d → r ≡ and_room d (room_test rec (length out) (length (news rec token value))) → Appends rec out token value a rec out
-    by (Refused b) c is = refused rec out token value (Refused b) a c (sym is ∙ e)
-    by Fine c is = tested rec out token value r a c is e
+    by : (d : Check) → Checks rec (length out) token value d → r ≡ and_room d (room_test rec (length out) (length (news rec token value))) → Appends rec out token value (Err a) rec out
+    by (Err b) c is = refused rec out token value (Err b) a c (sym is ∙ e)
+    by (Ok u) c is = tested rec out token value r a c is e
 
 -- none fits
-pub none_fits : (rec : Stream) (size token : ℕ) (value : List ℕ) (r : Check) → Verdict rec size token value r → r ≡ Fine
-    → Checks rec size token value Fine × (Fine ≡ room_test rec size (length (news rec token value)))
+pub none_fits : (rec : Stream) (size token : ℕ) (value : List ℕ) (r : Check) → Verdict rec size token value r → r ≡ Ok tt
+    → Checks rec size token value (Ok tt) × (Ok tt ≡ room_test rec size (length (news rec token value)))
 none_fits rec size token value r v e = by v.early v.checks v.is
   where
     by : (d : Check) → Checks rec size token value d → r ≡ and_room d (room_test rec size (length (news rec token value)))
-        → Checks rec size token value Fine × (Fine ≡ room_test rec size (length (news rec token value)))
-    by (Refused b) c is = absurd (not_fine b (sym is ∙ e))
-    by Fine c is = (c, sym e ∙ is)
+        → Checks rec size token value (Ok tt) × (Ok tt ≡ room_test rec size (length (news rec token value)))
+    by (Err b) c is = absurd (not_fine b (sym is ∙ e))
+    by (Ok u) c is = (c, sym e ∙ is)
 
 pub all_accepted : (rec : Stream) (out : List ℕ) (token : ℕ) (value : List ℕ) (r : Check) (a : Answer) (rec' : Stream) (out' : List ℕ)
-    → Verdict rec (length out) token value r → r ≡ Fine → Writes rec out token value a rec' out' → Appends rec out token value a rec' out'
-all_accepted rec out token value r a rec' out' v e w = accepted rec out token value Fine a rec' out' (none_fits rec (length out) token value r v e).0 refl w
+    → Verdict rec (length out) token value r → r ≡ Ok tt → Writes rec out token value a rec' out' → Appends rec out token value a rec' out'
+all_accepted rec out token value r a rec' out' v e w = accepted rec out token value (Ok tt) a rec' out' (none_fits rec (length out) token value r v e).0 refl w
 
 -- no two outcomes satisfy the contract
 pub unique : (rec : Stream) (out : List ℕ) (token : ℕ) (value : List ℕ) (a b : Answer) (r s : Stream) (o p : List ℕ)
@@ -260,12 +277,12 @@ unique rec out token value a b r s o p x y =
 
 -- a number of 01's table is small
 pub number_small : (a : Answer) → number a < 16
-number_small (Added n) = omega arith
-number_small Malformed = omega arith
-number_small Unknown = omega arith
-number_small TooLong = omega arith
-number_small (Broken e) = utf8laws.number_small e
-number_small (NoRoom n) = omega arith
+number_small (Ok n) = omega arith
+number_small (Err Malformed) = omega arith
+number_small (Err Unknown) = omega arith
+number_small (Err TooLong) = omega arith
+number_small (Err (Broken b)) = utf8laws.number_small (Err b)
+number_small (Err (NoRoom n)) = omega arith
 
 -- a place is far below 2^32, so that number and place can be told apart in one number
 abbrev Small : Answer → Type 0
@@ -286,12 +303,12 @@ answer_small e rec out token value h =
     n = length (adds rec.spaced (token_of token value))
 
     by : (t : Bool) → ltb longest (length value) ≡ t
-        → Small (cond t TooLong (cond (broken e) (Broken e) (cond (ltb (length out - rec.count) n) (NoRoom n) (Added n))))
+        → Small (cond t (Err TooLong) (cond (broken e) (Err (Broken (fault e))) (cond (ltb (length out - rec.count) n) (Err (NoRoom n)) (Ok n))))
     by true q = omega arith
     by false q =
         let l : length value ≤ longest = ltb-false longest (length value) q in
         let s : n < 2 ^ 32 = omega (arith, adds_length rec.spaced (token_of token value), given_size (present token) value) in
-        either (broken e) _ _ (omega (arith, place_within value e h)) (either (ltb (length out - rec.count) n) _ _ s s)
+        either (broken e) _ _ (omega (arith, fault_place e, place_within value e h)) (either (ltb (length out - rec.count) n) _ _ s s)
 
 pub place_small : (rec : Stream) (out : List ℕ) (token : ℕ) (value : List ℕ) (a : Answer) (rec' : Stream) (out' : List ℕ) → Appends rec out token value a rec' out' → place a < 2 ^ 32
 place_small rec out token value a rec' out' x = rw x.answers (answer_small x.encoding rec out token value x.encoded)

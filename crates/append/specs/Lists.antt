@@ -1,23 +1,21 @@
 -- Tokens appended one after another: what a list of appends that all succeed comes to, and that it does succeed where no refusal fits.
 -- Each append takes up where the one before left off, so the bytes are those of `text` from the record's bit on, behind what stood there, and the
 -- bit is theirs, and so are the lines and the column that they end in.
-use Rattle.std.specs.Prelude.{ℕ, ◌+◌, ◌-◌, ◌≤◌, ◌<◌, ◌≡◌, refl, List, [], ◌∷◌, ◌++◌, map, Bool, true, false, not, cond, ◌&&◌, ltb, eqb, length, take, drop}
+use Rattle.std.specs.Prelude.{ℕ, ◌+◌, ◌-◌, ◌≤◌, ◌<◌, ◌≡◌, refl, List, [], ◌∷◌, ◌++◌, map, Bool, Ok, Err, true, false, not, cond, ◌&&◌, ltb, eqb, length, take, drop}
 use Rattle.std.proofs.Common.{arith, ◌∙◌, ap, sym, append_assoc, length-append, length-drop, length-take-le, take_at, drop-drop, ltb-false}
 use Rattle.std.proofs.Math.Seq.{drop-append-add}
-use Rattle.std.proofs.lemmas.Bool.{eqb-false}
 use Rattle.utf8.specs.Rfc3629 as utf8
-use Rattle.utf8.specs.Rfc3629.{Text}
-use Rattle.utf8.specs.declared.Encoding.{Encoding}
+use Rattle.utf8.specs.Rfc3629.{Text, Encoding}
+use Rattle.utf8.specs.declared.Broken.TheVariants.{Bad, Cut}
 use Rattle.spelling.specs.Spelling.{known}
 use Rattle.stream.specs.Stream.{Token, adds, leaves, text, bit}
 use Rattle.append.specs.declared.Stream.{Stream}
-use Rattle.append.specs.declared.Answer.{Answer}
-use Rattle.append.specs.declared.Answer.TheVariants.{Added, Malformed, Unknown, TooLong, Broken, NoRoom}
+use Rattle.append.specs.declared.Refusal.TheVariants.{Malformed, Unknown, TooLong, Broken, NoRoom}
 use Rattle.position.specs.Position.{lines, column}
 use Rattle.position.specs.Laws.{lines_length}
 use Rattle.position.proofs.Laws.{column_length}
 use Rattle.append.specs.Laws.{is_sound}
-use Rattle.append.specs.Append.{Appends, number_of, present, token_of, news, longest, broken, unsound, before, room, answer_to, record_after, output_after, number}
+use Rattle.append.specs.Append.{Answer, Appends, fault, number_of, present, token_of, news, longest, broken, unsound, before, room, answer_to, record_after, output_after, number}
 
 -- a token word and value bytes, as they are lent
 abbrev pub Lent : Type 0
@@ -34,7 +32,7 @@ text_from rec ls = text rec.spaced (tokens_of ls)
 pub data AppendsAll : Stream → List ℕ → List Lent → Stream → List ℕ → Type 0 where
   none : {rec : Stream} {out : List ℕ} → AppendsAll rec out [] rec out
   one : {rec mid rec' : Stream} {out o out' : List ℕ} {l : Lent} {ls : List Lent} {n : ℕ}
-      → Appends rec out l.0 l.1 (Added n) mid o → AppendsAll mid o ls rec' out' → AppendsAll rec out (l ∷ ls) rec' out'
+      → Appends rec out l.0 l.1 (Ok n) mid o → AppendsAll mid o ls rec' out' → AppendsAll rec out (l ∷ ls) rec' out'
 
 -- the tokens' text stands behind the count, their bit is left, so many bytes are counted, and line and column are where the text ends
 pub record Appended (rec : Stream) (out : List ℕ) (ts : List Token) (rec' : Stream) (out' : List ℕ) : Type 0 where
@@ -60,8 +58,13 @@ pub record Succeeds (rec : Stream) (out : List ℕ) (t : Token) (rec' : Stream) 
   pub writes : out' ≡ take rec.count out ++ adds rec.spaced t ++ drop rec'.count out
 
 -- no number is 0 but that of success
+fault_number : (e : Encoding) → utf8.number (Err (fault e)) ≡ 0 → ⊥
+fault_number (Ok u) z = omega arith
+fault_number (Err (Bad p)) z = omega arith
+fault_number (Err (Cut p)) z = omega arith
+
 passed : (e : Encoding) (rec : Stream) (out : List ℕ) (token : ℕ) (value : List ℕ) → number (answer_to e rec out token value) ≡ 0
-    → (rec.count + length (news rec token value) ≤ length out) × (answer_to e rec out token value ≡ Added (length (news rec token value))) × Held rec
+    → (rec.count + length (news rec token value) ≤ length out) × (answer_to e rec out token value ≡ Ok (length (news rec token value))) × Held rec
 unfolding answer_to before room broken
 passed e rec out token value =
     by (unsound rec (length out)) (not (known (number_of token))) (not (present token) && ltb 0 (length value)) (ltb longest (length value)) (eqb (utf8.number e) 0)
@@ -71,15 +74,15 @@ passed e rec out token value =
     n = length (news rec token value)
 
     by : (a b c d g f : Bool) → unsound rec (length out) ≡ a → eqb (utf8.number e) 0 ≡ g → ltb (length out - rec.count) n ≡ f
-        → number (cond a Malformed (cond b Unknown (cond c Unknown (cond d TooLong (cond (not g) (Broken e) (cond f (NoRoom n) (Added n))))))) ≡ 0
+        → number (cond a (Err Malformed) (cond b (Err Unknown) (cond c (Err Unknown) (cond d (Err TooLong) (cond (not g) (Err (Broken (fault e))) (cond f (Err (NoRoom n)) (Ok n))))))) ≡ 0
         → (rec.count + n ≤ length out)
-        × (cond a Malformed (cond b Unknown (cond c Unknown (cond d TooLong (cond (not g) (Broken e) (cond f (NoRoom n) (Added n)))))) ≡ Added n)
+        × (cond a (Err Malformed) (cond b (Err Unknown) (cond c (Err Unknown) (cond d (Err TooLong) (cond (not g) (Err (Broken (fault e))) (cond f (Err (NoRoom n)) (Ok n)))))) ≡ Ok n)
         × Held rec
     by true b c d g f p q r z = absurd (omega arith)
     by false true c d g f p q r z = absurd (omega arith)
     by false false true d g f p q r z = absurd (omega arith)
     by false false false true g f p q r z = absurd (omega arith)
-    by false false false false false f p q r z = absurd (eqb-false (utf8.number e) 0 q z)
+    by false false false false false f p q r z = absurd (fault_number e z)
     by false false false false true true p q r z = absurd (omega arith)
     by false false false false true false p q r z =
         let s = is_sound rec (length out) p in
@@ -87,16 +90,16 @@ passed e rec out token value =
 
 -- an answer of number 0 is a success
 pub zero_added : {rec : Stream} {out : List ℕ} {token : ℕ} {value : List ℕ} {a : Answer} {rec' : Stream} {out' : List ℕ} → Appends rec out token value a rec' out'
-    → number a ≡ 0 → a ≡ Added (length (news rec token value))
+    → number a ≡ 0 → a ≡ Ok (length (news rec token value))
 zero_added {rec} {out} {token} {value} x z = x.answers ∙ (passed x.encoding rec out token value (ap number (sym x.answers) ∙ z)).1
 
-pub succeeds : {rec : Stream} {out : List ℕ} {token : ℕ} {value : List ℕ} {n : ℕ} {rec' : Stream} {out' : List ℕ} → Appends rec out token value (Added n) rec' out'
+pub succeeds : {rec : Stream} {out : List ℕ} {token : ℕ} {value : List ℕ} {n : ℕ} {rec' : Stream} {out' : List ℕ} → Appends rec out token value (Ok n) rec' out'
     → Succeeds rec out (token_of token value) rec' out'
 unfolding record_after output_after news
 succeeds {rec} {out} {token} {value} {n} {rec'} x =
     let m = length (news rec token value) in
     let p = passed x.encoding rec out token value (ap number (sym x.answers)) in
-    let z : n ≡ m = let q : Added n ≡ Added m = x.answers ∙ p.1 in cc in
+    let z : n ≡ m = let q : ◌≡◌ {A = Answer} (Ok n) (Ok m) = x.answers ∙ p.1 in cc in
     let c : rec'.count ≡ rec.count + m = ap (λ (s : Stream). s.count) x.leave ∙ ap (λ (k : ℕ). rec.count + k) z in
     record {
       fits = omega (arith, p.0);

@@ -1,25 +1,26 @@
 -- What the steps of the by-value core do: the refusals that need no measuring, 8, and the bytes.
-use Rattle.std.specs.Prelude.{ℕ, ◌+◌, ◌-◌, ◌≤◌, ◌≡◌, List, [], ◌∷◌, Bool, false, not, cond, ◌&&◌, ltb, eqb, length}
+use Rattle.std.specs.Prelude.{ℕ, ◌+◌, ◌-◌, ◌≤◌, ◌≡◌, List, [], ◌∷◌, Bool, Result, Ok, Err, false, not, cond, ◌&&◌, ltb, eqb, length}
 use Rattle.laws.specs.First.{first, within}
-use Rattle.utf8.specs.Rfc3629.{Encoded}
-use Rattle.utf8.specs.declared.Encoding.{Encoding}
+use Rattle.utf8.specs.Rfc3629.{Encoding, Encoded}
 use Rattle.append.specs.declared.Stream.{Stream}
-use Rattle.append.specs.declared.Answer.{Answer}
-use Rattle.append.specs.declared.Answer.TheVariants.{NoRoom}
-use Rattle.append.specs.declared.Check.{Check}
-use Rattle.append.specs.declared.Check.TheVariants.{Fine, Refused}
+use Rattle.append.specs.declared.Refusal.{Refusal}
+use Rattle.append.specs.declared.Refusal.TheVariants.{NoRoom}
 use Rattle.stream.specs.Length.{longest_token}
 use Rattle.stream.specs.Sink.{State, step, given}
 use Rattle.position.specs.Position.{lines, column}
 use Rattle.spelling.specs.Spelling.{spelling}
 use Rattle.stream.specs.declared.Sink.{Sink}
-use Rattle.append.specs.Append.{unsound, before, room, news, number_of, present, record_after, output_after}
+use Rattle.append.specs.Append.{Answer, unsound, before, room, news, number_of, present, record_after, output_after}
+
+-- nothing is refused, or why a token is
+abbrev pub Check : Type 0
+Check = Result (Unit {0}) Refusal
 
 -- the first of the refusals 1, 4, 2 that fits
 pub record Checks (rec : Stream) (size token : ℕ) (value : List ℕ) (r : Check) : Type 0 where
   pub encoding : Encoding
   pub encoded : Encoded value encoding
-  pub is : r ≡ first (within Refused (before encoding rec size token value)) Fine
+  pub is : r ≡ first (within Err (before encoding rec size token value)) (Ok tt)
 
 -- a value of so many bytes, a space and the longest spelling have room
 pub record Ample (rec : Stream) (size len : ℕ) : Type 0 where
@@ -28,12 +29,12 @@ pub record Ample (rec : Stream) (size len : ℕ) : Type 0 where
 
 -- 8, for a token of n bytes
 abbrev pub room_test : Stream → ℕ → ℕ → Check
-room_test rec size n = first ((ltb (size - rec.count) n, Refused (NoRoom n)) ∷ []) Fine
+room_test rec size n = first ((ltb (size - rec.count) n, Err (NoRoom n)) ∷ []) (Ok tt)
 
 -- 1, 4, 2 and then 8
 abbrev pub and_room : Check → Check → Check
-and_room (Refused a) c = Refused a
-and_room Fine c = c
+and_room (Err a) c = Err a
+and_room (Ok u) c = c
 
 pub record Verdict (rec : Stream) (size token : ℕ) (value : List ℕ) (r : Check) : Type 0 where
   pub early : Check

@@ -3,13 +3,13 @@
 // `step` takes the record by value and returns it; `append` is the same over a lent record.
 #![tactic(auto)]
 
-ghost use Rattle.std.specs.Prelude.{◌≡◌, ◌-◌, ◌≤◌, true, length};
+ghost use Rattle.std.specs.Prelude.{◌≡◌, ◌-◌, ◌≤◌, true, Err, length};
 ghost use Rattle.spelling.specs.Spelling.{spelling};
 ghost use Rattle.append.specs.Append.{Appends, news, number_of, number as number', place as place', present as present', unsound as unsound'};
 ghost use Rattle.append.specs.Steps.{Checks, Ample, room_test, Verdict, Writes, counted, moved_to, Ready};
 
 use stream::Sink;
-use utf8::Encoding;
+use utf8::Broken;
 
 // Bit 15 of a token word: a value is present. The number is below it.
 pub const PRESENT: u16 = 0x8000;
@@ -38,28 +38,26 @@ pub struct Stream {
     pub column: usize,
 }
 
-#[derive(Clone, Copy)]
-pub enum Answer {
-    // So many bytes were added.
-    Added(usize),
+// Why a token is not appended.
+#[derive(Clone, Copy, PartialEq, Eq)]
+pub enum Refusal {
     // The record's count is past the output's end, or its line or its column is larger than the count.
     Malformed,
     // No token has the number, or value bytes stand where none is present.
     Unknown,
-    // The value is over_long.
+    // The value is over-long.
     TooLong,
     // The value is not UTF-8.
-    Broken(Encoding),
+    Broken(Broken),
     // There is no room for the so many bytes that the token adds.
     NoRoom(usize),
 }
 
+// So many bytes were added, or none.
+pub type Answer = Result<usize, Refusal>;
+
 // What is known before the bytes are measured.
-#[derive(Clone, Copy)]
-pub enum Check {
-    Fine,
-    Refused(Answer),
-}
+type Check = Result<(), Refusal>;
 
 #[derive(Clone, Copy)]
 pub struct Next {
@@ -67,17 +65,38 @@ pub struct Next {
     pub rec: Stream,
 }
 
+// A refusal's number in 01's table.
+fn refusal_number(refusal: Refusal) -> u64
+    ensures { result ≡ number' (Err refusal) }
+{
+    match refusal {
+        Refusal::Malformed => MALFORMED,
+        Refusal::Unknown => UNKNOWN,
+        Refusal::TooLong => TOO_LONG,
+        Refusal::Broken(broken) => utf8::number(Err(broken)),
+        Refusal::NoRoom(_) => NO_ROOM,
+    }
+}
+
 // An answer's number in 01's table.
 pub fn number(a: Answer) -> u64
     ensures { result ≡ number' a }
 {
     match a {
-        Answer::Added(_) => 0,
-        Answer::Malformed => MALFORMED,
-        Answer::Unknown => UNKNOWN,
-        Answer::TooLong => TOO_LONG,
-        Answer::Broken(e) => utf8::number(e),
-        Answer::NoRoom(_) => NO_ROOM,
+        Ok(_) => 0,
+        Err(refusal) => refusal_number(refusal),
+    }
+}
+
+// A refusal's place in 01's table.
+fn refusal_place(refusal: Refusal) -> u64
+    ensures { result ≡ place' (Err refusal) }
+{
+    match refusal {
+        Refusal::Malformed | Refusal::Unknown => 0,
+        Refusal::TooLong => LONGEST as u64,
+        Refusal::Broken(broken) => utf8::place(Err(broken)) as u64,
+        Refusal::NoRoom(n) => n as u64,
     }
 }
 
@@ -86,12 +105,8 @@ pub fn place(a: Answer) -> u64
     ensures { result ≡ place' a }
 {
     match a {
-        Answer::Added(n) => n as u64,
-        Answer::Malformed => 0,
-        Answer::Unknown => 0,
-        Answer::TooLong => LONGEST as u64,
-        Answer::Broken(e) => utf8::place(e) as u64,
-        Answer::NoRoom(n) => n as u64,
+        Ok(n) => n as u64,
+        Err(refusal) => refusal_place(refusal),
     }
 }
 
@@ -117,29 +132,28 @@ fn unsound(rec: Stream, size: usize) -> bool
 }
 
 // The first fitting one of the refusals 1, 4 and 2, for an output of size bytes.
-fn refusal(rec: Stream, size: usize, token: u16, value: &[u8]) -> Check
+fn first_refusal(rec: Stream, size: usize, token: u16, value: &[u8]) -> Check
     ensures { Checks rec size token value.now result }
 {
     if unsound(rec, size) {
-        return Check::Refused(Answer::Malformed);
+        return Err(Refusal::Malformed);
     }
     if !spelling::known(number_of(token)) {
-        return Check::Refused(Answer::Unknown);
+        return Err(Refusal::Unknown);
     }
     if value.len() == 0 {
-        return Check::Fine;
+        return Ok(());
     }
     if !present(token) {
-        return Check::Refused(Answer::Unknown);
+        return Err(Refusal::Unknown);
     }
     if LONGEST < value.len() {
-        return Check::Refused(Answer::TooLong);
+        return Err(Refusal::TooLong);
     }
-    let e = utf8::check(value);
-    if utf8::number(e) != 0 {
-        return Check::Refused(Answer::Broken(e));
+    match utf8::check(value) {
+        Ok(()) => Ok(()),
+        Err(broken) => Err(Refusal::Broken(broken)),
     }
-    Check::Fine
 }
 
 // How many bytes the token, whose kind is spelled as word, adds: it is appended to an output with no room.
@@ -153,8 +167,7 @@ fn measure(spaced: bool, token: u16, word: &[u8], value: &[u8]) -> usize
         &mut nothing,
         number_of(token),
         word,
-        present(token),
-        value,
+        present(token).then_some(value),
     );
     s.at
 }
@@ -182,14 +195,14 @@ fn no_room(rec: Stream, size: usize, token: u16, word: &[u8], value: &[u8]) -> C
     ensures { result ≡ room_test rec size (length (news rec token value.now)) }
 {
     if ample(rec, size, value.len()) {
-        return Check::Fine;
+        return Ok(());
     }
     let n = measure(rec.spaced, token, word, value);
     let room = size - rec.count;
     if room < n {
-        return Check::Refused(Answer::NoRoom(n));
+        return Err(Refusal::NoRoom(n));
     }
-    Check::Fine
+    Ok(())
 }
 
 // The first fitting one of all refusals, for a token whose kind is spelled as word.
@@ -197,11 +210,8 @@ fn any_refusal(rec: Stream, size: usize, token: u16, word: &[u8], value: &[u8]) 
     requires { word.now ≡ spelling (number_of token) }
     ensures { Verdict rec size token value.now result }
 {
-    let first = refusal(rec, size, token, value);
-    match first {
-        Check::Refused(answer) => Check::Refused(answer),
-        Check::Fine => no_room(rec, size, token, word, value),
-    }
+    first_refusal(rec, size, token, value)?;
+    no_room(rec, size, token, word, value)
 }
 
 // The record that is left where the sink stands now. Only a value has newlines: behind the last of them the column begins anew.
@@ -238,11 +248,17 @@ fn put(rec: Stream, out: &mut [u8], token: u16, word: &[u8], value: &[u8]) -> Ne
         spaced: rec.spaced,
         at: rec.count,
     };
-    let s = stream::append(start, out, number_of(token), word, present(token), value);
+    let s = stream::append(
+        start,
+        out,
+        number_of(token),
+        word,
+        present(token).then_some(value),
+    );
     let added = s.at - rec.count;
     let left = moved(rec, s, value);
     Next {
-        answer: Answer::Added(added),
+        answer: Ok(added),
         rec: left,
     }
 }
@@ -254,8 +270,11 @@ fn checked(rec: Stream, out: &mut [u8], token: u16, word: &[u8], value: &[u8]) -
 {
     let first = any_refusal(rec, out.len(), token, word, value);
     match first {
-        Check::Refused(answer) => Next { answer, rec },
-        Check::Fine => put(rec, out, token, word, value),
+        Err(refusal) => Next {
+            answer: Err(refusal),
+            rec,
+        },
+        Ok(()) => put(rec, out, token, word, value),
     }
 }
 

@@ -1,6 +1,7 @@
--- One turn of the loop over a value's bytes, and its ends.
-use Rattle.std.specs.Prelude.{ℕ, ◌+◌, ◌≤◌, ◌<◌, ◌≡◌, refl, List, Bool, true, false, not, ◌&&◌, length, get_or, drop}
-use Rattle.std.proofs.Common.{sym, drop_of_length-le, drop-cons, add-one, arith, ne_eqb}
+-- A value's bytes one after the other, the end of them, and all of them at once.
+use Rattle.std.specs.Prelude.{ℕ, ◌+◌, ◌≤◌, ◌<◌, ◌≡◌, refl, List, [], ◌∷◌, Bool, true, false, not, ◌&&◌, length, get_or, drop}
+use Rattle.std.specs.List.{list_all}
+use Rattle.std.proofs.Common.{ap, sym, drop_of_length-le, drop-cons, add-one, arith, ne_eqb}
 use Rattle.std.proofs.lemmas.Bool.{not-true, not-false}
 use Rattle.blank.specs.Blank.{blank, all_blank}
 
@@ -32,3 +33,8 @@ first_past v h l = sym (stops v 0 false h (sym (past (get_or v 0 0) l)) refl)
 pub ends : (v : List ℕ) (i : ℕ) → length v ≤ i → all_blank (drop i v) ≡ true
 unfolding all_blank
 ends v i h = rw (drop_of_length-le v h)
+
+pub all_listed : (v : List ℕ) → all_blank v ≡ list_all blank v
+unfolding all_blank
+all_listed [] = refl
+all_listed (b ∷ v) = ap (λ (t : Bool). blank b && t) (all_listed v)

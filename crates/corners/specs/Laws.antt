@@ -2,7 +2,7 @@
 use Prim.Native.Nat.{ℕ, zero, suc, ◌+◌, ◌-◌, ◌≤◌, ◌<◌, min}
 use native.Mathlib.Omega.{arith}
 use Rattle.std.proofs.Common.{not-suc-le-zero, sub-one, ◌∙◌, sym, length-append, length-drop, drop-cons}
-use Rattle.std.specs.Prelude.{◌≡◌, List, [], ◌∷◌, ◌++◌, Bool, cond, not, ◌&&◌, ◌||◌, length, get_or, take, drop, replicate, ℤ}
+use Rattle.std.specs.Prelude.{◌≡◌, List, [], ◌∷◌, ◌++◌, Bool, cond, not, ◌&&◌, ◌||◌, length, get_or, take, drop, replicate, ℤ, Some, None, slice_get}
 use Rattle.std.proofs.Math.Path.{refl}
 use Rattle.std.proofs.Math.Bool.{true, false, or-true}
 use Rattle.std.proofs.lemmas.Bool.{false≢true}
@@ -12,7 +12,9 @@ use borrow.Author.Tests.{eq-eqb, ne_eqb, eqb-true, lt-ltb}
 use Rattle.decimal.specs.Decimal as decimal
 use Rattle.decimal.specs.Spells.{Spells}
 use Rattle.decimal.specs.declared.Decimal.{Decimal}
-use Rattle.white.specs.Parts.{parts, split_of}
+use Rattle.white.specs.Parts.{Span, span, parts, split_of}
+use Rattle.white.specs.declared.Part.{Part}
+use Rattle.std.proofs.lemmas.Option.{get_or_from_slice_get}
 use Rattle.white.specs.declared.Parts.{Parts}
 use Rattle.mode.specs.declared.Edition.{Edition}
 use Rattle.mode.specs.declared.Edition.TheVariants.{Crate, Sqlite}
@@ -25,7 +27,7 @@ use Rattle.grammar.specs.Shape.{Shape, slot, decimal, brackets, quoted, rowid, s
 use Rattle.grammar.specs.Grammar.{run, text, maybe}
 use Rattle.grammar.specs.Slots.{allowed}
 use Rattle.spelling.specs.Token.{TK_STRING, TK_WITHOUT, TK_LBRACKET, TK_RBRACKET}
-use Rattle.stream.specs.Stream.{Token, some}
+use Rattle.stream.specs.Stream.{Token}
 use Rattle.stream.specs.Sink.{between, doubled}
 use Rattle.tokens.specs.Corners.{bare, valued, id, newline, second_part, without, dashes, sourced, inner, quote, pairs}
 use Rattle.tokens.specs.Tokens as tokens
@@ -63,6 +65,10 @@ pub pairs_first : {w : List ℕ} {a b c : Spot} (n : ℕ) → 0 < n → Says w (
 unfolding pairs
 pairs_first zero h p q = absurd (not-suc-le-zero h)
 pairs_first (suc n) h p q = rw sub-one (puts_on (say (pairs n)) (says_then p q).puts (record { is = refl })).is
+
+pub pairs_next : {w : List ℕ} {a b c : Spot} (i n : ℕ) → i < n → Says w (bare TK_LBRACKET ∷ []) a b → Says w (bare TK_RBRACKET ∷ []) b c
+    → put w (say (pairs (n - (i + 1))) c.0.next) c ≡ put w (say (pairs (n - i)) a.0.next) a
+pairs_next i n l p q = let e : n - (i + 1) ≡ n - i - 1 = omega arith in rw e (pairs_first (n - i) (omega arith) p q)
 
 pub pairs_done : {w : List ℕ} {a s : Spot} (ts : List Token) (n : ℕ) → n ≤ 0 → put w (say (pairs n) a.0.next) a ≡ put w (say ts s.0.next) s → Says w ts s a
 unfolding pairs put emit
@@ -132,18 +138,29 @@ pub no_quote_lem : {t w o : List ℕ} {c : Edition} {d : ℕ} {r k : Record} {p 
 unfolding means
 no_quote_lem {t} {c = c} {p = p} x read past z = record { puts = λ u. of_other x TEXT read past (λ u. quote u (take (record_at t p.next).len (drop (record_at t p.next).start x)) ∷ []) z c }
 
--- the without_rowid_lem text
+-- the without-rowid text
 pub not_two : {w : List ℕ} {a : Spot} (v : List ℕ) (m : Parts) → m ≡ split_of v → (m.count ≡ 2 → ⊥) → Says w (without v) a a
 unfolding without split_of put emit
 not_two v m e z = let f : length (parts v) ≡ m.count = rw e in record { puts = record { is = rw (f, ne_eqb m.count 2 z) } }
 
-pub two_parts : {w u : List ℕ} {a b c : Spot} (v : List ℕ) (m : Parts) → m ≡ split_of v → m.count ≡ 2 → u ≡ take m.len (drop m.start v)
+pub two_parts : {w u : List ℕ} {a b c : Spot} (v : List ℕ) (m : Parts) (s : Part) → m ≡ split_of v → m.count ≡ 2 → m.second ≡ Some s → u ≡ take s.len (drop s.start v)
     → Says w (bare TK_WITHOUT ∷ []) a b → Says w (id u ∷ []) b c → Says w (without v) a c
 unfolding without split_of
-two_parts v m e z is p q =
+two_parts {u = u} v m s e z h is p q =
     let f : length (parts v) ≡ 2 = rw e at z in
-    let g : _ ≡ second_part v = rw e at is in
+    let there : slice_get (parts v) 1 ≡ Some s = rw e at h in
+    let g : u ≡ second_part v = rw (get_or_from_slice_get (parts v) 1 s (span 0 0) there) is in
     rw (f, ← g) (says_then p q)
+
+-- where there are two, there is a second
+two_there : (ps : List Span) → length ps ≡ 2 → slice_get ps 1 ≡ None → ⊥
+two_there [] e n = let no : ⊥ = omega arith in no
+two_there (p ∷ []) e n = let no : ⊥ = omega arith in no
+two_there (p ∷ q ∷ ps) e n = cc
+
+pub no_second : {w : List ℕ} {a : Spot} (v : List ℕ) (m : Parts) → m ≡ split_of v → m.count ≡ 2 → m.second ≡ None → Says w (without v) a a
+unfolding split_of
+no_second v m e z n = absurd (two_there (parts v) (rw e at z) (rw e at n))
 
 -- a CHECK's source
 pub no_dashes : {w v : List ℕ} {a b : Spot} (s : Bool) → s ≡ dashes v → s ≡ false → Says w (id v ∷ []) a b → Says w (sourced v) a b

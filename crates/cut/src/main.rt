@@ -6,11 +6,8 @@ use files::ROOM;
 fn main(rt: HostRuntime) {
     let mut text = [0u8; ROOM];
     let mut input = rt.stdin();
-    let got = files::read_to_end(&mut input, &mut text);
-    if !got.whole {
-        files::print_unreadable();
-        return;
+    match files::read_to_end(&mut input, &mut text) {
+        Ok(len) => cutter::print_lexemes(&text[..len]),
+        Err(_) => files::print_unreadable(),
     }
-    let len = got.len;
-    cutter::print_lexemes(&text[..len]);
 }

@@ -1,47 +1,16 @@
--- A signed number is held as its bits. What the code reads back at a number that the bits hold, and what comes of -1 - n for an n below 0.
-use Prim.Native.Nat.{ℕ, suc, ◌+◌, ◌-◌, ◌≤◌, ◌<◌, ◌^◌}
+-- A signed number is held as its bits. What the code reads back at a number that the bits hold, and how great it is without its sign.
+use Prim.Native.Nat.{◌≤◌, ◌<◌, ◌^◌}
 use native.Mathlib.Omega.{arith}
-use mathlib.Core.Path.{◌≡◌, refl, sym, ◌∙◌}
-use mathlib.Core.Bool.{true, false, false≢true}
-use lib.IntN.{ℤ, pos, negsuc, ◌-ℤ◌}
-use lib.Signed.{mag, lt_z}
-use lib.ListN.{length}
-use borrow.Author.Tests.{le-ltb, ltb-true}
+use mathlib.Core.Path.{◌≡◌}
+use lib.IntN.{ℤ, pos, negsuc}
+use lib.Signed.{mag}
 use mir.Syntax.{w64}
 use mir.Val.{SFits, to_z, of_z}
 use mir.ValLaws.{to_z-of_z}
-use Rattle.decimal.specs.Decimal.{magnitude, sign}
+use Rattle.decimal.specs.Decimal.{magnitude}
 
 abbrev pub held : ℤ → ℤ
 held z = to_z w64 (of_z w64 z)
-
-lower : (k : ℕ) → negsuc 0 -ℤ negsuc k ≡ pos k
-lower k =
-    let e : suc k - 1 ≡ k = omega arith in
-    rw (le-ltb (suc k) 1 (omega arith), e)
-
-pub not_below : (n : ℕ) → lt_z (pos n) (pos 0) ≡ true → ⊥
-not_below n h = let l = ltb-true n 0 h in omega arith
-
-minus : (z : ℤ) → lt_z z (pos 0) ≡ true → negsuc 0 -ℤ z ≡ pos (mag z)
-minus (pos n) h = absurd (not_below n h)
-minus (negsuc k) h = lower k
-
-one_more : (z : ℤ) → lt_z z (pos 0) ≡ true → mag z + 1 ≡ magnitude z
-one_more (pos n) h = absurd (not_below n h)
-one_more (negsuc k) h = refl
-
-not_negative : (z : ℤ) → lt_z z (pos 0) ≡ false → z ≡ pos (magnitude z)
-not_negative (pos n) h = refl
-not_negative (negsuc k) h = absurd (false≢true (sym h))
-
-minus_below : (z : ℤ) → lt_z z (pos 0) ≡ true → 1 ≡ length (sign z)
-minus_below (pos n) h = absurd (not_below n h)
-minus_below (negsuc k) h = refl
-
-no_minus : (z : ℤ) → lt_z z (pos 0) ≡ false → 0 ≡ length (sign z)
-no_minus (pos n) h = refl
-no_minus (negsuc k) h = absurd (false≢true (sym h))
 
 within : (z : ℤ) → mag z < 2 ^ 63 → magnitude z ≤ 2 ^ 63
 within (pos n) h = omega arith
@@ -53,25 +22,3 @@ module _ (z : ℤ) (f : SFits w64 z) where
 
   pub magnitude_within : magnitude z ≤ 2 ^ 63
   magnitude_within = within z f.sfits
-
-  module _ (h : lt_z (held z) (pos 0) ≡ true) where
-    below : lt_z z (pos 0) ≡ true
-    below = rw held_is at h
-
-    pub minus_fits : SFits w64 (negsuc 0 -ℤ held z)
-    minus_fits = rw (held_is, minus z below) (record { sfits = f.sfits })
-
-    pub minus_is : held (negsuc 0 -ℤ held z) ≡ pos (mag z)
-    minus_is = to_z-of_z w64 (negsuc 0 -ℤ held z) minus_fits ∙ rw (held_is, minus z below)
-
-    pub signs_below : 1 ≡ length (sign z)
-    signs_below = minus_below z below
-
-    pub below_is : mag z + 1 ≡ magnitude z
-    below_is = one_more z below
-
-  pub above_is : lt_z (held z) (pos 0) ≡ false → held z ≡ pos (magnitude z)
-  above_is h = held_is ∙ not_negative z (rw held_is at h)
-
-  pub signs_above : lt_z (held z) (pos 0) ≡ false → 0 ≡ length (sign z)
-  signs_above h = no_minus z (rw held_is at h)

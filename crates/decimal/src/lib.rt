@@ -1,7 +1,7 @@
 // A number of 64 bits with a sign, as decimal text in ASCII, by subtraction of powers of ten alone.
 #![tactic(auto)]
 
-ghost use Rattle.std.specs.Prelude.{◌≡◌, ◌+◌, ◌*◌, ◌^◌, ◌≤◌, ◌<◌, length};
+ghost use Rattle.std.specs.Prelude.{◌≡◌, ◌+◌, ◌*◌, ◌^◌, ◌≤◌, ◌<◌, length, take as take'};
 ghost use Rattle.std.proofs.lemmas.List.Edits.{sets};
 ghost use Rattle.decimal.specs.Decimal.{digit, natural, magnitude as magnitude', sign};
 ghost use Rattle.decimal.specs.Powers.{most, power as power'};
@@ -18,14 +18,26 @@ const ZERO: u8 = b'0';
 const MINUS: u8 = b'-';
 
 // The text of a number: the first `len` of the bytes, and zero bytes behind it.
-#[derive(Clone, Copy)]
+#[derive(Clone, Copy, PartialEq, Eq)]
 pub struct Decimal {
     pub bytes: [u8; SIZE],
     pub len: usize,
 }
 
+impl Decimal {
+    // The text: the first `len` of the bytes, or all of them where there are no more.
+    pub fn text(&self) -> &[u8]
+        ensures { result.now ≡ take' self.now.len self.now.bytes }
+    {
+        if SIZE < self.len {
+            return &self.bytes;
+        }
+        &self.bytes[..self.len]
+    }
+}
+
 // How often a power of ten was taken off a number, and what is left of it.
-#[derive(Clone, Copy)]
+#[derive(Clone, Copy, PartialEq, Eq)]
 struct Taken {
     digit: u64,
     rest: u64,
@@ -73,17 +85,16 @@ fn count(n: u64) -> usize
     requires { n < 10 ^ most }
     ensures { result ≡ length (natural n) }
 {
-    let mut k = 1;
-    while k < MOST {
+    for k in 1..MOST {
         if n < power(k) {
             return k;
         }
-        k += 1;
     }
-    k
+    MOST
 }
 
-// A power of ten taken off a number as often as it goes: how often is the first digit, and the rest has the others.
+// A power of ten taken off a number as often as it goes: how often is the first digit, and the rest has the others. (Not by `/` and `%`, since no
+// division of 64 bits may be linked.)
 fn take(n: u64, unit: u64) -> Taken
     requires { (0 < unit) × (n < 10 * unit) }
     ensures { (n ≡ result.digit * unit + result.rest) × (result.rest < unit) × (result.digit < 10) }
@@ -102,35 +113,27 @@ fn fill(n: u64, first: usize, last: usize, out: &mut [u8; SIZE])
     requires { (last + 1 ≡ first + length (natural n)) × (length (natural n) ≤ most) × (last < 20) }
     ensures { out.new ≡ sets out.old first (natural n) }
 {
-    let mut at = first;
     let mut rest = n;
-    while at < last {
+    for at in first..last {
         let t = take(rest, power(last - at));
         out[at] = glyph(t.digit);
         rest = t.rest;
-        at += 1;
     }
     out[last] = glyph(rest);
 }
 
-// A number without its sign. That of the lowest number fits no i64, so a number below 0 is counted down from -1, which does fit, and then 1 is added.
+// A number without its sign.
 fn magnitude(n: i64) -> u64
     ensures { result ≡ magnitude' n }
 {
-    if n < 0 {
-        return (-1 - n) as u64 + 1;
-    }
-    n as u64
+    n.unsigned_abs()
 }
 
 // How many bytes the sign takes: one for a minus.
 fn signs(n: i64) -> usize
     ensures { result ≡ length (sign n) }
 {
-    if n < 0 {
-        return 1;
-    }
-    0
+    usize::from(n < 0)
 }
 
 // The text of a number: its sign and its digits. Where there is no sign, the first digit comes over the minus.

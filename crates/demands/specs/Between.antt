@@ -1,7 +1,8 @@
--- A part of a valid text begins and ends between characters, so that the second part is a text again (section 4's without_rowid_lem text).
+-- A part of a valid text begins and ends between characters, so that the second part is a text again (section 4's without-rowid text).
 -- A White_Space character is a character, and its first byte is no tail. So all bytes of a character of a text bear the same mark: true where it is
 -- White_Space, else false. A part is a longest run of false, so it is a row of whole characters.
-use Rattle.std.specs.Prelude.{ℕ, zero, suc, ◌+◌, ◌-◌, ◌≤◌, ◌<◌, ◌≡◌, refl, Bool, true, false, cond, ◌&&◌, eqb, ltb, length, take, drop, replicate}
+use Rattle.std.specs.Prelude.{ℕ, zero, suc, Some, ◌+◌, ◌-◌, ◌≤◌, ◌<◌, ◌≡◌, refl, Bool, true, false, cond, ◌&&◌, eqb, ltb, length, take, drop, replicate}
+use Rattle.std.proofs.lemmas.Option.{get_or_from_slice_get}
 use Rattle.std.proofs.Common.{arith, ap, ap₂, sym, length-append, take-add, eqb-true, ltb-true, ltb-false}
 use mathlib.Core.List.{List, [], ◌∷◌, ◌++◌, append_assoc, Memᴰ}
 use Rattle.std.proofs.lemmas.Bool.{false≢true}
@@ -193,12 +194,16 @@ part_between {s} {p} t m = of_each (all_between t) m
 pub between_text : {s : List ℕ} {p : Span} → CutBetween s p → Text (take p.len (drop p.start s))
 between_text {s} {p} b = text_rest b.start (take p.len (drop p.start s)) (rw take-add at b.end)
 
--- and the second part is, which white::split gives: where there is none, it is empty
-pub second_text : {s : List ℕ} → Text s → Text (take (split_of s).len (drop (split_of s).start s))
-unfolding split_of
+-- and the second part is: where there is none, it is empty
+pub second_text : {s : List ℕ} → Text s → Text (take (second (parts s)).len (drop (second (parts s)).start s))
 second_text {s} t = between_text (of_second (all_between t))
   where
     of_second : {ps : List Span} → Each s ps → CutBetween s (second ps)
     of_second no_more = record { start = none; end = none }
     of_second (also b no_more) = record { start = none; end = none }
     of_second (also b (also d e)) = d
+
+-- and so is the one that white::split gives
+pub second_given : {s : List ℕ} (p : Span) → Text s → (split_of s).second ≡ Some p → Text (take p.len (drop p.start s))
+unfolding split_of
+second_given {s} p t e = rw (get_or_from_slice_get (parts s) 1 p (span 0 0) e) at (second_text {s = s} t)

@@ -1,10 +1,9 @@
 -- What stands in the engine's buffer: after appends from a fresh record, and after render. The buffer begins with the text of the tokens
 -- (append/Lists, wire/Lists, render/Render), and of texts S1 to S12 (stream/Cases) and demand 3 (reading/Demand3) are proved.
-use Rattle.std.specs.Prelude.{ℕ, ◌^◌, ◌<◌, ◌≡◌, Bool, true, false, cond, ltb, length, take, drop, replicate}
-use Rattle.std.proofs.Common.{arith, zero-add, ◌∙◌, ap, sym, take_at, eq-eqb}
+use Rattle.std.specs.Prelude.{ℕ, ◌^◌, ◌<◌, ◌≡◌, Bool, true, false, cond, ltb, length, take, drop, replicate, Ok, Err}
+use Rattle.std.proofs.Common.{arith, zero-add, ◌∙◌, ap, sym, take_at}
 use Rattle.std.proofs.Math.Path.{refl}
 use mathlib.Core.List.{List, [], ◌∷◌, map, Memᴰ}
-use Rattle.std.proofs.lemmas.Bool.{false≢true}
 use Rattle.std.proofs.Math.Seq.{take-append_seam}
 use Rattle.stream.specs.Stream.{text}
 use Rattle.stream.specs.Cases.{Case, cases, cases_hold}
@@ -14,13 +13,15 @@ use Rattle.append.specs.Lists.{Lent, tokens_of, AppendsAll}
 use Rattle.append.proofs.Lists.{appended}
 use Rattle.wire.specs.Wire.{unpacked}
 use Rattle.tree.specs.Check as tree
-use Rattle.tree.specs.declared.Answer.{Answer}
+use Rattle.tree.specs.Check.{Answer}
+use Rattle.tree.specs.declared.Refusal.{Refusal}
+use Rattle.tree.specs.declared.Refusal.TheVariants.{Malformed, TooLong, Broken, Mark, Misfit, Outside, Unclosed, NotRowid, Deep, Ends}
+use Rattle.utf8.specs.declared.Broken.TheVariants.{Bad, Cut}
 use Rattle.tokens.specs.Tokens.{tokens_of as treeTokens}
 use Rattle.mode.specs.declared.Mode.{Mode}
 use Rattle.tokens.specs.Tokens.{in_edition}
-use Rattle.render.specs.Render.{text_in, refuses, rendered, output_after, RendersIn, number_of, place_of}
-use Rattle.render.specs.declared.Outcome.{Outcome}
-use Rattle.render.specs.declared.Outcome.TheVariants.{Done, Refused, NoRoom}
+use Rattle.render.specs.Render.{Outcome, text_in, or_refused, rendered, output_after, RendersIn, number_of, place_of}
+use Rattle.render.specs.declared.Refusal.TheVariants.{Tree, NoRoom}
 use Rattle.kinyandoma.specs.Trees as Call
 use Rattle.reading.specs.Reading.{Lexed, Cuts}
 use Rattle.reading.specs.Readable.{Readable}
@@ -81,21 +82,32 @@ appended_never_shared {ls₁ = ls₁} {ls₂ = ls₂} {lx₁ = lx₁} {lx₂ = l
     never_shared (tokens_of ls₁) (tokens_of ls₂) lx₁ lx₂ r s (sym (appended_text f x) ∙ e ∙ appended_text g y)
 
 -- ---- render in any mode, where its number is 0
-module _ {m : Mode} {t x out : List ℕ} {o : Outcome} {out' : List ℕ} (renders : RendersIn m t x out o out') (success : number_of o ≡ 0) where
-  pub outcome_is : o ≡ Done (length (text_in m.edition t x))
-  unfolding rendered refuses
-  outcome_is = renders.answers ∙ by (refuses a) (ltb (length out) n) refl (ap number_of (sym renders.answers) ∙ success)
-    where
-      a : Answer
-      a = renders.answer
+-- (no refusal is 0)
+not_zero : (r : Refusal) → tree.number_of (Err r) ≡ 0 → ⊥
+not_zero Malformed z = omega arith
+not_zero TooLong z = omega arith
+not_zero (Broken (Bad p)) z = omega arith
+not_zero (Broken (Cut p)) z = omega arith
+not_zero (Mark i) z = omega arith
+not_zero (Misfit i) z = omega arith
+not_zero (Outside i) z = omega arith
+not_zero (Unclosed i) z = omega arith
+not_zero (NotRowid i) z = omega arith
+not_zero (Deep i) z = omega arith
+not_zero (Ends i) z = omega arith
 
+module _ {m : Mode} {t x out : List ℕ} {o : Outcome} {out' : List ℕ} (renders : RendersIn m t x out o out') (success : number_of o ≡ 0) where
+  pub outcome_is : o ≡ Ok (length (text_in m.edition t x))
+  unfolding rendered
+  outcome_is = renders.answers ∙ by renders.answer (ltb (length out) n) (ap number_of (sym renders.answers) ∙ success)
+    where
       n : ℕ
       n = length (text_in m.edition t x)
 
-      by : (b c : Bool) → refuses a ≡ b → number_of (cond b (Refused a) (cond c (NoRoom n) (Done n))) ≡ 0 → cond b (Refused a) (cond c (NoRoom n) (Done n)) ≡ Done n
-      by true c q z = absurd (false≢true (rw (eq-eqb (tree.number_of a) 0 z) at q))
-      by false true q z = absurd (omega arith)
-      by false false q z = refl
+      by : (a : Answer) (c : Bool) → number_of (or_refused a (cond c (Err (NoRoom n)) (Ok n))) ≡ 0 → or_refused a (cond c (Err (NoRoom n)) (Ok n)) ≡ Ok n
+      by (Err r) c z = absurd (not_zero r z)
+      by (Ok u) true z = absurd (omega arith)
+      by (Ok u) false z = refl
 
   -- so many bytes as it says are the text of the tree
   pub rendered_text : take (place_of o) out' ≡ text_in m.edition t x

@@ -1,20 +1,18 @@
 -- 02, i: "Texts stand one behind the other in one output", and "demands 2 and 3 hold for each accepted job". What stands in the output after the call for a list of jobs.
 -- One job adds the text of its tree behind what was there, or nothing (`one_adds`); so the output is the texts in order and then what it was (`texts_in_order`), each text
 -- stands where its job says (`job_text`), and it is read back (`job_reads_back`). And 02, xiii: bytes that no record of a job's tree names do not show (`jobs_alike`).
-use Rattle.std.specs.Prelude.{ℕ, ◌+◌, ◌≤◌, ◌≡◌, refl, Bool, true, false, cond, eqb, length, take, drop}
+use Rattle.std.specs.Prelude.{ℕ, ◌+◌, ◌≤◌, ◌≡◌, refl, Bool, true, false, cond, eqb, length, take, drop, Ok, Err}
 use Rattle.std.proofs.Common.{arith, add-zero, zero-add, ◌∙◌, ap, sym, length-append, length-drop, take-append-drop, length-take-le, take_at, drop_at, drop-drop, eq-eqb, eqb-true}
 use mathlib.Core.List.{List, [], ◌∷◌, ◌++◌, append_assoc, Memᴰ}
 use Rattle.std.proofs.Math.Seq.{take-append_seam, drop-append-add}
 use Rattle.std.proofs.lemmas.Bool.{eqb-false}
 use Rattle.mode.specs.declared.Mode.{Mode}
-use Rattle.tree.specs.Check.{ChecksIn}
-use Rattle.tree.specs.declared.Answer.TheVariants.{Admitted}
+use Rattle.tree.specs.Check.{Admitted, ChecksIn}
 use Rattle.tokens.specs.Tokens.{tokens_of, in_edition}
 use Rattle.admitted.specs.Named.{Agree}
-use Rattle.render.specs.declared.Outcome.{Outcome}
-use Rattle.render.specs.declared.Outcome.TheVariants.{Done, Refused, NoRoom}
+use Rattle.render.specs.declared.Refusal.TheVariants.{Tree, NoRoom}
 use Rattle.render.specs.declared.jobs.Job.{Job}
-use Rattle.render.specs.Render.{text_in, output_after, number_of, place_of}
+use Rattle.render.specs.Render.{Outcome, text_in, output_after, number_of, place_of}
 use Rattle.render.specs.Jobs.{outside, tree_of, written, Called, Single, InOrder, none, one, RendersJobs}
 use Rattle.render.proofs.JobsLaws.{single_room, jobs_same}
 use Rattle.reading.specs.Reading.{Lexed, Cuts}
@@ -32,15 +30,15 @@ record Added (o : Outcome) (text rest room : List ℕ) : Type 0 where
   counts : written o ≡ length (accepted o text)
   says : number_of o ≡ 0 → place_of o ≡ length (accepted o text)
 
-outcome_adds : (o : Outcome) (text rest room : List ℕ) → (number_of o ≡ 0 → o ≡ Done (length text)) → room ≡ output_after o text rest → Added o text rest room
+outcome_adds : (o : Outcome) (text rest room : List ℕ) → (number_of o ≡ 0 → o ≡ Ok (length text)) → room ≡ output_after o text rest → Added o text rest room
 unfolding output_after
-outcome_adds (Done n) text rest room d w = let l : n ≡ length text = ap place_of (d refl) in record { adds = w; counts = l; says = λ _. l }
-outcome_adds (Refused a) text rest room d w = by (eqb (number_of (Refused a)) 0) refl
+outcome_adds (Ok n) text rest room d w = let l : n ≡ length text = ap place_of (d refl) in record { adds = w; counts = l; says = λ _. l }
+outcome_adds (Err (Tree r)) text rest room d w = by (eqb (number_of (Err (Tree r))) 0) refl
   where
-    by : (b : Bool) → eqb (number_of (Refused a)) 0 ≡ b → Added (Refused a) text rest room
-    by true q = let e = d (eqb-true (number_of (Refused a)) 0 q) in let z : ◌≡◌ {A = ℕ} 0 1 = cc in absurd (omega arith)
-    by false q = record { adds = rw q w; counts = rw q; says = λ z. absurd (eqb-false (number_of (Refused a)) 0 q z) }
-outcome_adds (NoRoom n) text rest room d w = record { adds = w; counts = refl; says = λ z. absurd (omega arith) }
+    by : (b : Bool) → eqb (number_of (Err (Tree r))) 0 ≡ b → Added (Err (Tree r)) text rest room
+    by true q = let e = d (eqb-true (number_of (Err (Tree r))) 0 q) in absurd (cc)
+    by false q = record { adds = rw q w; counts = rw q; says = λ z. absurd (eqb-false (number_of (Err (Tree r))) 0 q z) }
+outcome_adds (Err (NoRoom n)) text rest room d w = record { adds = w; counts = refl; says = λ z. absurd (omega arith) }
 
 module _ (m : Mode) (trees x : List ℕ) where
   -- the text of a job that is accepted, where k is the job after the call; a refused one has none

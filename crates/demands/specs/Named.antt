@@ -1,18 +1,18 @@
 -- 02, xiii: "take one tree and two texts of equal length, both admitted with it. If they agree on every part that a record of the tree names, the written
 -- bytes and the length are the same, in both editions." Of the outcomes of measure and render, and of what crosses; and that neither premise is idle. The
 -- texts need not even be of one length.
-use Rattle.std.specs.Prelude.{ℕ, zero, suc, ◌+◌, ◌<◌, ◌≡◌, refl, List, [], ◌∷◌, ◌++◌, Bool, true, false, not, cond, eqb, length}
-use Rattle.std.proofs.Common.{arith, ◌∙◌, ap, ap₂, sym, leb→le, eqb-true}
-use Rattle.std.proofs.lemmas.Bool.{false≢true, eqb-false}
+use Rattle.std.specs.Prelude.{ℕ, zero, suc, ◌+◌, ◌<◌, ◌≡◌, refl, List, [], ◌∷◌, ◌++◌, Bool, true, false, not, cond, length, Ok, Err}
+use Rattle.std.proofs.Common.{arith, ◌∙◌, ap, ap₂, sym, leb→le}
+use Rattle.std.proofs.lemmas.Bool.{false≢true}
 use Rattle.laws.specs.Little.{little}
 use Rattle.laws.specs.Text.{ascii}
 use Rattle.mode.specs.declared.Edition.TheVariants.{Crate}
 use Rattle.mode.specs.declared.Mode.{Mode}
-use Rattle.utf8.specs.Rfc3629 as utf8
-use Rattle.utf8.specs.Rfc3629.{Text, In, one}
+use Rattle.utf8.specs.Rfc3629.{Text, In, one, Encoding, Encoded}
+use Rattle.utf8.specs.declared.Broken.TheVariants.{Bad, Cut}
 use Rattle.utf8.specs.Scan.{ones, counted, width}
 use Rattle.utf8.proofs.Characters.{width_none}
-use Rattle.utf8.specs.Laws.{text_char, text_first, number_text}
+use Rattle.utf8.specs.Laws.{text_char, text_first}
 use Rattle.utf8.proofs.Laws.{text_rest}
 use Rattle.blank.specs.Blank.{blank, all_blank}
 use Rattle.spelling.specs.Rows as spellings
@@ -24,14 +24,12 @@ use Rattle.grammar.specs.Kind.{TOKEN, RUN}
 use Rattle.grammar.specs.Grammar.{shape}
 use Rattle.grammar.specs.Slots.{allowed}
 use Rattle.tokens.specs.Tokens.{behind, token_of, rows, placed, means, node, whole, tokens_of, text_of}
-use Rattle.tree.specs.Check.{has_part, malformed, answer_in, ChecksIn, number_of}
+use Rattle.tree.specs.Check.{Answer, Admitted, has_part, malformed, or_broken, answer_in, ChecksIn, number_of}
 use Rattle.tree.proofs.Whole as whole
-use Rattle.tree.specs.declared.Answer.{Answer}
-use Rattle.tree.specs.declared.Answer.TheVariants.{Admitted, Malformed, Broken}
+use Rattle.tree.specs.declared.Refusal.TheVariants.{Malformed, Broken}
 use Rattle.admitted.specs.Named.{part_of, Agree}
 use Rattle.admitted.proofs.Named.{text_same}
-use Rattle.render.specs.declared.Outcome.{Outcome}
-use Rattle.render.specs.Render.{text_in, measured, rendered, output_after, MeasuresIn, RendersIn}
+use Rattle.render.specs.Render.{Outcome, text_in, measured, rendered, output_after, MeasuresIn, RendersIn}
 use Rattle.kinyandoma.specs.Trees as Call
 
 module _ {m : Mode} {t x y : List ℕ} (agree : Agree t x y) (admits : ChecksIn m t x Admitted) (too : ChecksIn m t y Admitted) where
@@ -90,9 +88,10 @@ no_text t =
 
 pub refused_all_the_same : (m : Mode) (t : List ℕ) (a : Answer) → ChecksIn m t (0x61 ∷ 0xFF ∷ []) a → number_of a ≡ 0 → ⊥
 unfolding answer_in
-refused_all_the_same m t a c z = by (malformed t) (eqb (utf8.number c.encoding) 0) _ refl (sym (ap number_of c.answers) ∙ z)
+refused_all_the_same m t a c z = by (malformed t) c.encoding _ c.encoded (sym (ap number_of c.answers) ∙ z)
   where
-    by : (f e : Bool) (s : Answer) → eqb (utf8.number c.encoding) 0 ≡ e → number_of (cond f Malformed (cond (not e) (Broken c.encoding) s)) ≡ 0 → ⊥
-    by true e s q h = omega arith
-    by false true s q h = no_text ((number_text _ c.encoding c.encoded).0 (eqb-true (utf8.number c.encoding) 0 q))
-    by false false s q h = eqb-false (utf8.number c.encoding) 0 q h
+    by : (f : Bool) (e : Encoding) (s : Answer) → Encoded (0x61 ∷ 0xFF ∷ []) e → number_of (cond f (Err Malformed) (or_broken e s)) ≡ 0 → ⊥
+    by true e s k h = omega arith
+    by false (Ok u) s k h = no_text k
+    by false (Err (Bad p)) s k h = omega arith
+    by false (Err (Cut p)) s k h = omega arith

@@ -5,8 +5,7 @@ use Rattle.mode.specs.declared.Mode.{Mode}
 use Rattle.record.specs.Record.{count}
 use Rattle.grammar.specs.Grammar.{root}
 use Rattle.tree.specs.Check.{place}
-use Rattle.field.specs.Profile.{broken, ProfilesIn, number_of}
-use Rattle.field.specs.declared.Verdict.{Verdict}
+use Rattle.field.specs.Profile.{Verdict, broken, ProfilesIn, number_of}
 use Rattle.field.specs.Admits.{both, Each, Keeps, all_keep}
 
 pub keep_to_it : {m : Mode} {t x : List ℕ} {v : Verdict} → ProfilesIn m t x v → number_of v ≡ 0 → Each (Keeps t) t (count t) 0 (place 1 root ∷ [])

@@ -3,9 +3,8 @@
 -- record that breaks the profile.
 use Prim.Native.Nat.{ℕ, suc, ◌+◌, ◌-◌, ◌%◌, ◌≤◌, ◌<◌}
 use native.Mathlib.Omega.{arith}
-use Rattle.std.specs.Prelude.{◌≡◌, refl, List, [], ◌∷◌, ◌++◌, map, Bool, true, false, cond}
+use Rattle.std.specs.Prelude.{◌≡◌, refl, List, [], ◌∷◌, ◌++◌, map, Bool, true, false, cond, Result, Ok, Err}
 use Rattle.std.proofs.Common.{◌∙◌, ap, sym}
-use Rattle.std.proofs.lemmas.Bool.{false≢true}
 use Rattle.record.specs.Record.{record_at, count}
 use Rattle.grammar.specs.Shape.{Class}
 use Rattle.grammar.specs.Packed.{turn}
@@ -13,28 +12,27 @@ use Rattle.tree.specs.Check.{Place, place, holds, fits}
 use Rattle.tree.proofs.Steps.{childless}
 use Rattle.tree.specs.Walk.{refused}
 use Rattle.admitted.proofs.Fills.{fill}
-use Rattle.field.specs.Profile.{breaks, stopped, behind, first_break}
+use Rattle.field.specs.Profile.{breaks, first_break}
 use Rattle.field.specs.Nodes.{nodes_at, nodes_below, codes, breaks_by, depth_left, codes_below}
 use Rattle.field.proofs.Nodes.{breaks_is}
-use Rattle.field.specs.declared.Found.{Found}
 use Rattle.field.specs.Walk.{Sound, resumed, Goes, Led, Finds, Going, Split}
 
 -- ---- the ways of a walk
 module _ (t : List ℕ) where
-  pub start : (i : ℕ) (ps : List Place) → Goes t i ps (behind i) ps
+  pub start : (i : ℕ) (ps : List Place) → Goes t i ps (Ok i) ps
   unfolding resumed
-  start i ps = record { is = λ rest h. refl; on = λ rest h z. h }
+  start i ps = record { is = λ rest h. refl; on = λ rest h. h }
 
   below_sound : {ps : List Place} {i d : ℕ} {c : Class} → Sound t (place d c ∷ ps) i → Sound t (map (place (d + 1)) (holds c (record_at t i)) ++ ps) (i + 1)
   below_sound s = record { text = s.text; fills = (fill s.fills).on; short = s.short }
 
-  module _ {i : ℕ} {ps : List Place} {j d : ℕ} {c : Class} {qs : List Place} (g : Goes t i ps (behind j) (place d c ∷ qs)) (b : Bool) (be : b ≡ breaks t j (place d c)) where
+  module _ {i : ℕ} {ps : List Place} {j d : ℕ} {c : Class} {qs : List Place} (g : Goes t i ps (Ok j) (place d c ∷ qs)) (b : Bool) (be : b ≡ breaks t j (place d c)) where
     arrives : (rest : List Place) → Sound t (ps ++ rest) i → Sound t (place d c ∷ (qs ++ rest)) j
-    arrives rest s = g.on rest s refl
+    arrives rest s = g.on rest s
 
     one_step : (rest : List Place) → Sound t (ps ++ rest) i
         → first_break t (count t - j) j (place d c ∷ (qs ++ rest))
-        ≡ cond b (stopped j) (first_break t (count t - (j + 1)) (j + 1) (map (place (d + 1)) (holds c (record_at t j)) ++ (qs ++ rest)))
+        ≡ cond b (Err j) (first_break t (count t - (j + 1)) (j + 1) (map (place (d + 1)) (holds c (record_at t j)) ++ (qs ++ rest)))
     unfolding first_break
     one_step rest s =
         let l = (fill (arrives rest s).fills).there in
@@ -42,12 +40,12 @@ module _ (t : List ℕ) where
         rw (n, be)
 
     -- the next record breaks the profile
-    stops : b ≡ true → Goes t i ps (stopped j) []
+    stops : b ≡ true → Goes t i ps (Err j) []
     unfolding resumed
-    stops z = record { is = λ rest s. g.is rest s ∙ one_step rest s ∙ rw z; on = λ rest s y. absurd (false≢true (sym y)) }
+    stops z = record { is = λ rest s. g.is rest s ∙ one_step rest s ∙ rw z; on = λ rest s. tt }
 
     -- or it does not, and all below it, which fits its place, come to w
-    passes : b ≡ false → {w : Found} → (fits c (record_at t j) ≡ true → Goes t (j + 1) (map (place (d + 1)) (holds c (record_at t j))) w []) → Goes t i ps w qs
+    passes : b ≡ false → {w : Result ℕ ℕ} → (fits c (record_at t j) ≡ true → Goes t (j + 1) (map (place (d + 1)) (holds c (record_at t j))) w []) → Goes t i ps w qs
     unfolding resumed
     passes z {w} below =
         record {
@@ -69,7 +67,7 @@ module _ {t : List ℕ} {i : ℕ} {ps : List Place} {left next u n : ℕ} (g : G
   s : Split g.classes u n
   s = split g.classes u n g.coded some
 
-  goes_here : Goes t i ps (behind next) (place (25 - left) s.class ∷ map (place (25 - left)) s.others)
+  goes_here : Goes t i ps (Ok next) (place (25 - left) s.class ∷ map (place (25 - left)) s.others)
   goes_here = rw s.are at g.goes
 
   few : nodes_at s.class < 256
@@ -78,7 +76,7 @@ module _ {t : List ℕ} {i : ℕ} {ps : List Place} {left next u n : ℕ} (g : G
   -- the record is there, and with depth left its children stand in the places below
   module _ (rest : List Place) (sound : Sound t (ps ++ rest) i) where
     here : Sound t (place (25 - left) s.class ∷ (map (place (25 - left)) s.others ++ rest)) next
-    here = goes_here.on rest sound refl
+    here = goes_here.on rest sound
 
     pub turn_there : (next < count t) × (count t < refused)
     turn_there = ((fill here.fills).there, here.short)
@@ -97,45 +95,37 @@ module _ {t : List ℕ} {i : ℕ} {ps : List Place} {left next u n : ℕ} (g : G
     test_here : b ≡ breaks t next (place (25 - left) s.class)
     test_here = be ∙ rw (sym s.first) (breaks_is t next s.class left)
 
-    pub turn_breaks : b ≡ true → Goes t i ps (stopped next) []
+    pub turn_breaks : b ≡ true → Goes t i ps (Err next) []
     turn_breaks = stops t goes_here b test_here
 
     pub turn_left : b ≡ false → 1 ≤ left
     turn_left z = depth_left t next (u % 256) left (sym be ∙ z)
 
-    -- all below the record come to w
-    module _ (z : b ≡ false) {w : Found} (below : fits s.class (record_at t next) ≡ true → Goes t (next + 1) (map (place (25 - left + 1)) (holds s.class (record_at t next))) w []) where
-      on_all : Goes t i ps w (map (place (25 - left)) s.others)
-      on_all = passes t goes_here b test_here z below
+    -- all below the record come to w, where it does not break the profile
+    module _ (z : b ≡ false) where
+      on_all : {w : Result ℕ ℕ} → (fits s.class (record_at t next) ≡ true → Goes t (next + 1) (map (place (25 - left + 1)) (holds s.class (record_at t next))) w []) → Goes t i ps w (map (place (25 - left)) s.others)
+      on_all below = passes t goes_here b test_here z below
 
-      turn_stopped : w.broken ≡ true → Goes t i ps w []
-      unfolding resumed
-      turn_stopped y =
-          record { is = λ rest q. rw y (rw y at (on_all.is rest q)); on = λ rest q e. absurd (false≢true (sym e ∙ y)) }
+      -- by the walk below it
+      module _ (h : left ≤ 24) where
+        walked_below : {w : Result ℕ ℕ} → Finds t (next + 1) (left - 1) (nodes_below (u % 256) (record_at t next).kind) (record_at t next).kids w
+            → fits s.class (record_at t next) ≡ true → Goes t (next + 1) (map (place (25 - left + 1)) (holds s.class (record_at t next))) w []
+        walked_below found fe =
+            let l = turn_left z in
+            let d : 25 - left + 1 ≡ 25 - (left - 1) = omega arith in
+            rw d (found (holds s.class (record_at t next)) (rw s.first at (codes_below s.class (record_at t next) few fe)))
 
-      turn_past : w.broken ≡ false → Going t i ps left w.at (turn u) (n - 1)
-      turn_past y =
-          let e : behind w.at ≡ w = sym (ap (λ (k : Bool). record { broken = k; at = w.at }) y) in
-          record { classes = s.others; coded = s.coded; goes = rw e on_all }
+        pub turn_found : (k : ℕ) → Finds t (next + 1) (left - 1) (nodes_below (u % 256) (record_at t next).kind) (record_at t next).kids (Err k) → Goes t i ps (Err k) []
+        unfolding resumed
+        turn_found k found = let g = on_all (walked_below found) in record { is = g.is; on = λ rest q. tt }
 
-    -- by the walk below it
-    module _ (z : b ≡ false) (h : left ≤ 24) {w : Found} (found : Finds t (next + 1) (left - 1) (nodes_below (u % 256) (record_at t next).kind) (record_at t next).kids w) where
-      walked_below : fits s.class (record_at t next) ≡ true → Goes t (next + 1) (map (place (25 - left + 1)) (holds s.class (record_at t next))) w []
-      walked_below fe =
-          let l = turn_left z in
-          let d : 25 - left + 1 ≡ 25 - (left - 1) = omega arith in
-          rw d (found (holds s.class (record_at t next)) (rw s.first at (codes_below s.class (record_at t next) few fe)))
+        pub turn_on : (j : ℕ) → Finds t (next + 1) (left - 1) (nodes_below (u % 256) (record_at t next).kind) (record_at t next).kids (Ok j) → Going t i ps left j (turn u) (n - 1)
+        turn_on j found = record { classes = s.others; coded = s.coded; goes = on_all (walked_below found) }
 
-      pub turn_found : w.broken ≡ true → Goes t i ps w []
-      turn_found = turn_stopped z walked_below
+      -- or since there is nothing below it
+      module _ (none : (record_at t next).kids ≡ 0) where
+        none_below : fits s.class (record_at t next) ≡ true → Goes t (next + 1) (map (place (25 - left + 1)) (holds s.class (record_at t next))) (Ok (next + 1)) []
+        none_below fe = rw (childless s.class (record_at t next) fe none) (start t (next + 1) [])
 
-      pub turn_on : w.broken ≡ false → Going t i ps left w.at (turn u) (n - 1)
-      turn_on = turn_past z walked_below
-
-    -- or since there is nothing below it
-    module _ (z : b ≡ false) (none : (record_at t next).kids ≡ 0) where
-      none_below : fits s.class (record_at t next) ≡ true → Goes t (next + 1) (map (place (25 - left + 1)) (holds s.class (record_at t next))) (behind (next + 1)) []
-      none_below fe = rw (childless s.class (record_at t next) fe none) (start t (next + 1) [])
-
-      pub turn_childless : Going t i ps left (next + 1) (turn u) (n - 1)
-      turn_childless = turn_past z none_below refl
+        pub turn_childless : Going t i ps left (next + 1) (turn u) (n - 1)
+        turn_childless = record { classes = s.others; coded = s.coded; goes = on_all none_below }

@@ -14,57 +14,56 @@ use Rattle.record.specs.Record.{record_at}
 use Rattle.grammar.specs.Kind.{RUN, LIST, NONE, TEXT, NUMBER}
 use Rattle.grammar.specs.Shape.{Class, one, list, one_or, small, ruled}
 use Rattle.grammar.specs.Slots.{allowed}
-use Rattle.tree.specs.Check.{Place, place, holds, ChecksIn}
-use Rattle.tree.specs.declared.Answer.TheVariants.{Admitted}
+use Rattle.std.specs.Prelude.{Result, Ok, Err, IsOk}
+use Rattle.tree.specs.Check.{Admitted, Place, place, holds, ChecksIn}
 use Rattle.render.specs.Render as render
-use Rattle.render.specs.Render.{text_in, output_after, MeasuresIn, RendersIn}
+use Rattle.render.specs.Render.{Outcome, text_in, output_after, MeasuresIn, RendersIn}
 use Rattle.render.specs.Laws.{measures_unique}
 use Rattle.render.proofs.Laws.{agree}
-use Rattle.render.specs.declared.Outcome.{Outcome}
-use Rattle.render.specs.declared.Outcome.TheVariants.{Done}
-use Rattle.field.specs.Profile.{foreign, first_node, takes_node, deepest, breaks, stopped, first_break, broken, profiled, ProfilesIn, number_of}
-use Rattle.field.specs.Laws.{length_told, checked}
-use Rattle.field.specs.declared.Verdict.{Verdict}
-use Rattle.field.specs.declared.Verdict.TheVariants.{Measured, Unfit}
+use Rattle.field.specs.Profile.{Verdict, foreign, first_node, takes_node, deepest, breaks, first_break, broken, Measured, or_unfit, profiled, ProfilesIn, number_of}
+use Rattle.field.specs.Laws.{no_zero, length_told, checked}
+use Rattle.field.specs.declared.Refusal.TheVariants.{Measure, Unfit}
 
 -- ---- where measure refuses, its outcome is the verdict
 pub as_measured : (m : Mode) (t x : List ℕ) (o : Outcome) (v : Verdict) → MeasuresIn m t x o → (render.number_of o ≡ 0 → ⊥) → ProfilesIn m t x v → v ≡ Measured o
 unfolding profiled
 as_measured m t x o v mm h p =
     let q : p.outcome ≡ o = measures_unique m t x p.outcome o p.measures mm in
-    p.answers ∙ rw (q, ne_eqb (render.number_of o) 0 h)
+    p.answers ∙ ap (profiled t) q ∙ by o h
+  where
+    by : (r : Outcome) → (render.number_of r ≡ 0 → ⊥) → profiled t r ≡ Measured r
+    by (Err r) k = refl
+    by (Ok n) k = absurd (k refl)
 
 -- ---- what the profile admits
 module _ {m : Mode} {t x : List ℕ} {v : Verdict} (p : ProfilesIn m t x v) (z : number_of v ≡ 0) where
   -- measure's outcome is 0, and no record breaks the profile
-  pub both : (render.number_of p.outcome ≡ 0) × ((v ≡ Measured p.outcome) × ((broken t).broken ≡ false))
+  pub both : (render.number_of p.outcome ≡ 0) × ((v ≡ Measured p.outcome) × IsOk (broken t))
   unfolding profiled
-  both = by (eqb (render.number_of p.outcome) 0) (broken t).broken refl refl p.answers
+  both = by p.outcome (broken t) refl p.answers
     where
-      by : (a b : Bool) → eqb (render.number_of p.outcome) 0 ≡ a → (broken t).broken ≡ b
-          → v ≡ cond (not a) (Measured p.outcome) (cond b (Unfit (broken t).at) (Measured p.outcome))
-          → (render.number_of p.outcome ≡ 0) × ((v ≡ Measured p.outcome) × ((broken t).broken ≡ false))
-      by true true q r e = absurd (omega (arith, ap number_of e))
-      by true false q r e = (eqb-true (render.number_of p.outcome) 0 q, (e, r))
-      by false b q r e = absurd (eqb-false (render.number_of p.outcome) 0 q (sym (ap number_of e) ∙ z))
+      by : (o : Outcome) (w : Result ℕ ℕ) → broken t ≡ w → v ≡ profiled t o → (render.number_of o ≡ 0) × ((v ≡ Measured o) × IsOk (broken t))
+      by (Err r) w q e = absurd (no_zero r (sym (ap number_of e) ∙ z))
+      by (Ok n) (Err i) q e = let f : v ≡ Err (Unfit i) = rw q at e in absurd (omega (arith, ap number_of f))
+      by (Ok n) (Ok j) q e = (refl, (rw q at e, rw q refl))
 
   -- the check admits it in the same mode, with the same text
   pub check_admits : ChecksIn m t x Admitted
   check_admits = checked p.measures both.0
 
   -- the verdict is its length, which measure gives too
-  pub measured_too : (v ≡ Measured (Done (length (text_in m.edition t x)))) × MeasuresIn m t x (Done (length (text_in m.edition t x)))
+  pub measured_too : (v ≡ Measured (Ok (length (text_in m.edition t x)))) × MeasuresIn m t x (Ok (length (text_in m.edition t x)))
   measured_too =
       let l = length_told p.measures both.0 in
       (both.1.0 ∙ ap Measured l, rw l at p.measures)
 
   -- and where there is room for so much, render writes the tree's text and nothing beyond it
   pub rendered_too : {out out' : List ℕ} {o : Outcome} → length (text_in m.edition t x) ≤ length out → RendersIn m t x out o out'
-      → (o ≡ Done (length (text_in m.edition t x))) × (out' ≡ text_in m.edition t x ++ drop (length (text_in m.edition t x)) out)
+      → (o ≡ Ok (length (text_in m.edition t x))) × (out' ≡ text_in m.edition t x ++ drop (length (text_in m.edition t x)) out)
   unfolding output_after
   rendered_too {out} {out'} {o} room r =
       let text = text_in m.edition t x in
-      let done : o ≡ Done (length text) = agree m t x out out' (Done (length text)) o (λ n e. let q : length text ≡ n = cc in omega arith) measured_too.1 r in
+      let done : o ≡ Ok (length text) = agree m t x out out' (Ok (length text)) o (λ n e. let q : length text ≡ n = cc in omega arith) measured_too.1 r in
       (done, rw done at r.writes)
 
 -- ---- its records, each in its place
@@ -106,7 +105,7 @@ keeps t i p h =
       shallow = ltb-false deepest p.depth (or_right run (ltb deepest p.depth) others);
     }
 
-pub all_keep : (t : List ℕ) (n i : ℕ) (ps : List Place) → (first_break t n i ps).broken ≡ false → Each (Keeps t) t n i ps
+pub all_keep : (t : List ℕ) (n i : ℕ) (ps : List Place) → IsOk (first_break t n i ps) → Each (Keeps t) t n i ps
 unfolding first_break
 all_keep t zero i ps h = tt
 all_keep t (suc n) i [] h = tt
@@ -114,7 +113,7 @@ all_keep t (suc n) i (p ∷ ps) h =
     let qs = map (place (p.depth + 1)) (holds p.class (record_at t i)) ++ ps in
     by qs (breaks t i p) refl h (all_keep t n (i + 1) qs)
   where
-    by : (qs : List Place) (b : Bool) → breaks t i p ≡ b → (cond b (stopped i) (first_break t n (i + 1) qs)).broken ≡ false
-        → ((first_break t n (i + 1) qs).broken ≡ false → Each (Keeps t) t n (i + 1) qs) → Keeps t i p × Each (Keeps t) t n (i + 1) qs
-    by qs true q e rest = absurd (false≢true (sym e))
+    by : (qs : List Place) (b : Bool) → breaks t i p ≡ b → IsOk (cond b (Err i) (first_break t n (i + 1) qs))
+        → (IsOk (first_break t n (i + 1) qs) → Each (Keeps t) t n (i + 1) qs) → Keeps t i p × Each (Keeps t) t n (i + 1) qs
+    by qs true q e rest = absurd (false≢true e)
     by qs false q e rest = (keeps t i p q, rest e)

@@ -1,94 +1,76 @@
 -- From measure and the walk to the verdict; that no two verdicts satisfy the contract, and that a place is small.
-use Prim.Native.Nat.{ℕ, zero, suc, ◌+◌, ◌-◌, ◌≤◌, ◌<◌}
-use native.Mathlib.Omega.{arith}
-use Rattle.std.specs.Prelude.{◌≡◌, Bool, not, ◌&&◌, ltb, length}
-use Rattle.std.proofs.Math.Path.{refl}
-use Rattle.std.proofs.Common.{◌∙◌, ap, sym}
-use mathlib.Core.List.{List, [], ◌∷◌, ◌++◌, map}
-use Rattle.std.proofs.Math.Bool.{true, false, cond}
-use Rattle.std.proofs.Math.Dec.{eqb}
-use borrow.Author.Tests.{eqb-true, eqb-false, eq-eqb, ne_eqb}
-use Rattle.laws.specs.First.{first}
-use Rattle.mode.specs.Options.{is_sqlite, plain}
+use Rattle.std.specs.Prelude.{ℕ, zero, suc, ◌+◌, ◌-◌, ◌≤◌, ◌<◌, ◌≡◌, refl, List, [], ◌∷◌, ◌++◌, map, Bool, true, false, cond, length, Result, Ok, Err, MatchResult}
+use Rattle.std.proofs.Common.{arith, ◌∙◌, ap, sym}
+use Rattle.mode.specs.Options.{plain}
 use Rattle.mode.specs.declared.Edition.TheVariants.{Crate}
 use Rattle.mode.specs.declared.Mode.{Mode}
-use Rattle.utf8.specs.Rfc3629 as utf8
-use Rattle.utf8.specs.declared.Encoding.{Encoding}
-use Rattle.record.specs.Record.{record_at, count, mark_ok}
+use Rattle.utf8.specs.Rfc3629.{Encoding}
+use Rattle.utf8.specs.declared.Broken.TheVariants.{Bad, Cut}
+use Rattle.record.specs.Record.{record_at, count}
 use Rattle.grammar.specs.Grammar.{root}
 use Rattle.tree.specs.Check as tree
-use Rattle.tree.specs.Check.{Place, place, holds, fits, inside, swallows, misnames, faults_in, scan_in, malformed, longest, answer_in, ChecksIn}
+use Rattle.tree.specs.Check.{Answer, Admitted, Place, place, holds, ChecksIn, scan_in, answer_in}
 use Rattle.tree.proofs.Bounds.{admitted_short}
-use Rattle.tree.specs.declared.Answer.{Answer}
-use Rattle.tree.specs.declared.Answer.TheVariants.{Admitted, Malformed, TooLong, Broken, Mark, Misfit, Outside, Unclosed, NotRowid, Deep}
+use Rattle.tree.specs.declared.Refusal.{Refusal as TreeRefusal}
+use Rattle.tree.specs.declared.Refusal.TheVariants.{Malformed, TooLong, Broken, Mark, Misfit, Outside, Unclosed, NotRowid, Deep, Ends}
 use Rattle.rules.specs.Whole.{plain_looser, looser}
 use Rattle.tokens.specs.Tokens.{in_edition}
 use Rattle.admitted.proofs.Fills.{root_filled}
 use Rattle.render.specs.Render as render
-use Rattle.render.specs.Render.{refuses, measured, text_in, MeasuresIn}
+use Rattle.render.specs.Render.{Outcome, or_refused, measured, text_in, MeasuresIn}
 use Rattle.render.specs.Laws.{measures_unique, number_small as outcome-small}
-use Rattle.render.specs.declared.Outcome.{Outcome}
-use Rattle.render.specs.declared.Outcome.TheVariants.{Done, Refused}
-use Rattle.field.specs.Profile.{takes_node, breaks, stopped, behind, first_break, broken, profiled, ProfilesIn, number_of}
+use Rattle.render.specs.declared.Refusal.{Refusal as RenderRefusal}
+use Rattle.render.specs.declared.Refusal.TheVariants.{Tree, NoRoom}
+use Rattle.field.specs.Profile.{Verdict, takes_node, breaks, first_break, broken, Measured, or_unfit, profiled, ProfilesIn, number_of}
 use Rattle.field.specs.Nodes.{nodes_at}
 use Rattle.field.specs.Walk.{Sound, resumed, Led, Finds}
-use Rattle.field.specs.declared.Found.{Found}
-use Rattle.field.specs.declared.Verdict.{Verdict}
-use Rattle.field.specs.declared.Verdict.TheVariants.{Measured, Unfit}
+use Rattle.field.specs.declared.Refusal.TheVariants.{Measure, Unfit}
+
+-- ---- no refusal is 0
+not_zero : (r : TreeRefusal) → tree.number_of (Err r) ≡ 0 → ⊥
+not_zero Malformed z = omega arith
+not_zero TooLong z = omega arith
+not_zero (Broken (Bad p)) z = omega arith
+not_zero (Broken (Cut p)) z = omega arith
+not_zero (Mark i) z = omega arith
+not_zero (Misfit i) z = omega arith
+not_zero (Outside i) z = omega arith
+not_zero (Unclosed i) z = omega arith
+not_zero (NotRowid i) z = omega arith
+not_zero (Deep i) z = omega arith
+not_zero (Ends i) z = omega arith
+
+pub no_zero : (r : RenderRefusal) → render.number_of (Err r) ≡ 0 → ⊥
+no_zero (Tree r) z = not_zero r z
+no_zero (NoRoom n) z = omega arith
 
 -- ---- a check that is answered 0 admits
+pub zero_admits : (a : Answer) → tree.number_of a ≡ 0 → a ≡ Admitted
+zero_admits (Ok u) z = refl
+zero_admits (Err r) z = absurd (not_zero r z)
+
 module _ (m : Mode) (t x : List ℕ) where
   scan_admits : (n i : ℕ) (ps : List Place) → tree.number_of (scan_in m t x n i ps) ≡ 0 → scan_in m t x n i ps ≡ Admitted
-  unfolding scan_in faults_in
-  scan_admits zero i [] z = refl
-  scan_admits zero i (p ∷ ps) z = absurd (omega arith)
-  scan_admits (suc n) i [] z = absurd (omega arith)
-  scan_admits (suc n) i (p ∷ ps) z =
-      let r = record_at t i in
-      by (not (mark_ok r)) (not (fits p.class r)) (not (inside x r)) (m.strict && swallows x p.class r) (is_sqlite m.edition && misnames x p.class r) (ltb tree.deepest p.depth) _
-      (scan_admits n (i + 1) (map (place (p.depth + 1)) (holds p.class r) ++ ps)) z
-    where
-      by : (k f o s q d : Bool) (a : Answer) → (tree.number_of a ≡ 0 → a ≡ Admitted)
-          → tree.number_of (first ((k, Mark i) ∷ (f, Misfit i) ∷ (o, Outside i) ∷ (s, Unclosed i) ∷ (q, NotRowid i) ∷ (d, Deep i) ∷ []) a) ≡ 0
-          → first ((k, Mark i) ∷ (f, Misfit i) ∷ (o, Outside i) ∷ (s, Unclosed i) ∷ (q, NotRowid i) ∷ (d, Deep i) ∷ []) a ≡ Admitted
-      by true f o s q d a h e = absurd (omega arith)
-      by false true o s q d a h e = absurd (omega arith)
-      by false false true s q d a h e = absurd (omega arith)
-      by false false false true q d a h e = absurd (omega arith)
-      by false false false false true d a h e = absurd (omega arith)
-      by false false false false false true a h e = absurd (omega arith)
-      by false false false false false false a h e = h e
+  scan_admits n i ps = zero_admits (scan_in m t x n i ps)
 
   answer_admits : (e : Encoding) → tree.number_of (answer_in m e t x) ≡ 0 → answer_in m e t x ≡ Admitted
-  unfolding answer_in
-  answer_admits e z = by (malformed t) (ltb longest (length x)) (eqb (utf8.number e) 0) refl z
-    where
-      by : (f l b : Bool) → eqb (utf8.number e) 0 ≡ b
-          → tree.number_of (first ((f, Malformed) ∷ (l, TooLong) ∷ (not b, Broken e) ∷ []) (scan_in m t x (count t) 0 (place 1 root ∷ []))) ≡ 0
-          → first ((f, Malformed) ∷ (l, TooLong) ∷ (not b, Broken e) ∷ []) (scan_in m t x (count t) 0 (place 1 root ∷ [])) ≡ Admitted
-      by true l b q h = absurd (omega arith)
-      by false true b q h = absurd (omega arith)
-      by false false false q h = absurd (eqb-false (utf8.number e) 0 q h)
-      by false false true q h = scan_admits (count t) 0 (place 1 root ∷ []) h
+  answer_admits e = zero_admits (answer_in m e t x)
 
 -- ---- where measure's outcome is 0, the check admits the tree, in the mode and without one
 module _ {m : Mode} {t x : List ℕ} {o : Outcome} (mm : MeasuresIn m t x o) (z : render.number_of o ≡ 0) where
-  answered : (tree.number_of mm.answer ≡ 0) × (o ≡ Done (length (text_in m.edition t x)))
-  unfolding measured refuses
-  answered = by (eqb (tree.number_of mm.answer) 0) refl mm.answers
+  answered : ChecksIn m t x Admitted × (o ≡ Ok (length (text_in m.edition t x)))
+  unfolding measured
+  answered = by mm.answer mm.checks mm.answers
     where
-      by : (b : Bool) → eqb (tree.number_of mm.answer) 0 ≡ b → o ≡ cond (not b) (Refused mm.answer) (Done (length (text_in m.edition t x)))
-          → (tree.number_of mm.answer ≡ 0) × (o ≡ Done (length (text_in m.edition t x)))
-      by true q e = (eqb-true (tree.number_of mm.answer) 0 q, e)
-      by false q e = absurd (eqb-false (tree.number_of mm.answer) 0 q (sym (ap render.number_of e) ∙ z))
+      by : (a : Answer) → ChecksIn m t x a → o ≡ or_refused a (Ok (length (text_in m.edition t x))) → ChecksIn m t x Admitted × (o ≡ Ok (length (text_in m.edition t x)))
+      by (Ok u) c e = (c, e)
+      by (Err r) c e = absurd (not_zero r (sym (ap render.number_of e) ∙ z))
 
-  pub length_told : o ≡ Done (length (text_in m.edition t x))
+  pub length_told : o ≡ Ok (length (text_in m.edition t x))
   length_told = answered.1
 
   pub checked : ChecksIn m t x Admitted
-  checked =
-      let c = mm.checks in
-      record { encoding = c.encoding; encoded = c.encoded; answers = sym (answer_admits m t x c.encoding (sym (ap tree.number_of c.answers) ∙ answered.0)) }
+  checked = answered.0
 
   root_sound : Sound t (place 1 root ∷ []) 0
   root_sound =
@@ -107,37 +89,32 @@ module _ {m : Mode} {t x : List ℕ} {o : Outcome} (mm : MeasuresIn m t x o) (z 
   led = record { classes = root ∷ []; coded = root_coded; rest = []; sound = root_sound }
 
   -- what the walk comes to is what is broken
-  module _ {w : Found} (found : Finds t 0 24 3 1 w) where
-    none_left : (n i : ℕ) → first_break t n i [] ≡ behind i
-    unfolding first_break
-    none_left zero i = refl
-    none_left (suc n) i = refl
+  none_left : (n i : ℕ) → first_break t n i [] ≡ Ok i
+  unfolding first_break
+  none_left zero i = refl
+  none_left (suc n) i = refl
 
-    pub found_is : broken t ≡ w
-    unfolding broken resumed
-    found_is = by w.broken refl
-      where
-        walked : first_break t (count t) 0 (place 1 root ∷ []) ≡ resumed t w []
-        walked = let e : count t - 0 ≡ count t = omega arith in rw e at ((found (root ∷ []) root_coded).is [] root_sound)
+  walked : (w : Result ℕ ℕ) → Finds t 0 24 3 1 w → first_break t (count t) 0 (place 1 root ∷ []) ≡ resumed t w []
+  walked w found = let e : count t - 0 ≡ count t = omega arith in rw e at ((found (root ∷ []) root_coded).is [] root_sound)
 
-        by : (b : Bool) → w.broken ≡ b → first_break t (count t) 0 (place 1 root ∷ []) ≡ w
-        by true q = walked ∙ rw q
-        by false q = walked ∙ rw (q, none_left (count t - w.at) w.at)
+  pub found_is : (w : Result ℕ ℕ) → Finds t 0 24 3 1 w → broken t ≡ w
+  unfolding broken resumed
+  found_is (Err i) found = walked (Err i) found
+  found_is (Ok j) found = walked (Ok j) found ∙ none_left (count t - j) j
 
 -- ---- the ways through the profile
-module _ {m : Mode} {t x : List ℕ} {o : Outcome} (mm : MeasuresIn m t x o) (k : ℕ) (is : k ≡ render.number_of o) where
-  pub told_refused : (k ≡ 0 → ⊥) → ProfilesIn m t x (Measured o)
+pub told_refused : {m : Mode} {t x : List ℕ} (r : RenderRefusal) → MeasuresIn m t x (Err r) → ProfilesIn m t x (Err (Measure r))
+unfolding profiled
+told_refused r mm = record { outcome = Err r; measures = mm; answers = refl }
+
+module _ {m : Mode} {t x : List ℕ} {n : ℕ} (mm : MeasuresIn m t x (Ok n)) where
+  pub told_unfit : (i : ℕ) → broken t ≡ Err i → ProfilesIn m t x (Err (Unfit i))
   unfolding profiled
-  told_refused h = record { outcome = o; measures = mm; answers = rw (← is, ne_eqb k 0 h) }
+  told_unfit i e = record { outcome = Ok n; measures = mm; answers = rw e }
 
-  module _ (z : k ≡ 0) {w : Found} (e : broken t ≡ w) where
-    pub told_unfit : w.broken ≡ true → ProfilesIn m t x (Unfit w.at)
-    unfolding profiled
-    told_unfit h = record { outcome = o; measures = mm; answers = rw (← is, eq-eqb k 0 z, e, h) }
-
-    pub told_fit : w.broken ≡ false → ProfilesIn m t x (Measured o)
-    unfolding profiled
-    told_fit h = record { outcome = o; measures = mm; answers = rw (← is, eq-eqb k 0 z, e, h) }
+  pub told_fit : (j : ℕ) → broken t ≡ Ok j → ProfilesIn m t x (Ok n)
+  unfolding profiled
+  told_fit j e = record { outcome = Ok n; measures = mm; answers = rw e }
 
 -- no two verdicts satisfy the contract
 pub unique : (m : Mode) (t x : List ℕ) (v w : Verdict) → ProfilesIn m t x v → ProfilesIn m t x w → v ≡ w
@@ -146,11 +123,16 @@ unique m t x v w p q =
 
 -- ---- a number is one of the table, and a place is far below 2^32, so that the two can be told apart in one number
 pub number_small : (v : Verdict) → number_of v < 16
-number_small (Measured o) = outcome-small o
-number_small (Unfit i) = omega arith
+number_small (Ok n) = omega arith
+number_small (Err (Measure r)) = outcome-small (Err r)
+number_small (Err (Unfit i)) = omega arith
 
 -- what breaks the profile is a record of the tree
-pub break_there : (t : List ℕ) (n i : ℕ) (ps : List Place) → (first_break t n i ps).at ≤ i + n
+abbrev pub UpTo : ℕ → Result ℕ ℕ → Type 0
+UpTo n (Ok j) = j ≤ n
+UpTo n (Err i) = i ≤ n
+
+pub break_there : (t : List ℕ) (n i : ℕ) (ps : List Place) → UpTo (i + n) (first_break t n i ps)
 unfolding first_break
 break_there t zero i ps = omega arith
 break_there t (suc n) i [] = omega arith
@@ -158,6 +140,7 @@ break_there t (suc n) i (p ∷ ps) =
     let qs = map (place (p.depth + 1)) (holds p.class (record_at t i)) ++ ps in
     by (breaks t i p) _ (break_there t n (i + 1) qs)
   where
-    by : (b : Bool) (w : Found) → w.at ≤ i + 1 + n → (cond b (stopped i) w).at ≤ i + suc n
+    by : (b : Bool) (w : Result ℕ ℕ) → UpTo (i + 1 + n) w → UpTo (i + suc n) (cond b (Err i) w)
     by true w h = omega arith
-    by false w h = omega arith
+    by false (Ok j) h = omega arith
+    by false (Err j) h = omega arith

@@ -1,7 +1,7 @@
 -- 02, xi, the field profile: "only CreateTable, CreateIndex, DropTable, DropIndex and AlterTable, alone or in a Cmd with flags 0, with no RUN in
 -- place of a ported node and nesting of at most 24. .. Refusals: those of measure in their order first .. then 11 with the first record that breaks
 -- the profile." The records stand in the places of the check's scan.
-use Rattle.std.specs.Prelude.{ℕ, zero, suc, ◌+◌, ◌≡◌, List, [], ◌∷◌, ◌++◌, map, Bool, true, false, not, cond, ◌&&◌, ◌||◌, eqb, ltb}
+use Rattle.std.specs.Prelude.{ℕ, zero, suc, ◌+◌, ◌≡◌, List, [], ◌∷◌, ◌++◌, map, Bool, true, false, not, cond, ◌&&◌, ◌||◌, eqb, ltb, Result, Ok, Err}
 use Rattle.laws.specs.Among.{among, all}
 use Rattle.laws.specs.First.{first}
 use Rattle.mode.specs.declared.Mode.{Mode}
@@ -11,11 +11,13 @@ use Rattle.grammar.specs.Shape.{Class, one, list, one_or, small, ruled}
 use Rattle.grammar.specs.Grammar.{root}
 use Rattle.tree.specs.Check.{Place, place, holds}
 use Rattle.render.specs.Render as render
-use Rattle.render.specs.Render.{MeasuresIn}
-use Rattle.render.specs.declared.Outcome.{Outcome}
-use Rattle.field.specs.declared.Found.{Found}
-use Rattle.field.specs.declared.Verdict.{Verdict}
-use Rattle.field.specs.declared.Verdict.TheVariants.{Measured, Unfit}
+use Rattle.render.specs.Render.{Outcome, MeasuresIn}
+use Rattle.field.specs.declared.Refusal.{Refusal}
+use Rattle.field.specs.declared.Refusal.TheVariants.{Measure, Unfit}
+
+-- what the profile comes to: the length that measure answers, or a refusal
+abbrev pub Verdict : Type 0
+Verdict = Result ℕ Refusal
 
 abbrev pub five : List ℕ
 five = CreateTable ∷ CreateIndex ∷ DropTable ∷ DropIndex ∷ AlterTable ∷ []
@@ -50,27 +52,31 @@ deepest = 24
 unfoldable pub breaks : List ℕ → ℕ → Place → Bool
 breaks t i p = foreign t i || ((eqb (record_at t i).kind RUN && takes_node p.class) || ltb deepest p.depth)
 
-abbrev pub stopped : ℕ → Found
-stopped i = record { broken = true; at = i }
-
-abbrev pub behind : ℕ → Found
-behind i = record { broken = false; at = i }
-
 -- the first that breaks it, of the n records from index i on, which fill these places as the check's scan has them; or the index behind them
-unfoldable pub first_break : List ℕ → ℕ → ℕ → List Place → Found
-first_break t zero i ps = behind i
-first_break t (suc n) i [] = behind i
+unfoldable pub first_break : List ℕ → ℕ → ℕ → List Place → Result ℕ ℕ
+first_break t zero i ps = Ok i
+first_break t (suc n) i [] = Ok i
 first_break t (suc n) i (p ∷ ps) =
-    cond (breaks t i p) (stopped i) (first_break t n (i + 1) (map (place (p.depth + 1)) (holds p.class (record_at t i)) ++ ps))
+    cond (breaks t i p) (Err i) (first_break t n (i + 1) (map (place (p.depth + 1)) (holds p.class (record_at t i)) ++ ps))
 
 -- of all records
-unfoldable pub broken : List ℕ → Found
+unfoldable pub broken : List ℕ → Result ℕ ℕ
 broken t = first_break t (count t) 0 (place 1 root ∷ [])
+
+-- measure's outcome as a verdict
+abbrev pub Measured : Outcome → Verdict
+Measured (Ok n) = Ok n
+Measured (Err r) = Err (Measure r)
+
+-- the first record that breaks the profile, or else this
+abbrev pub or_unfit : Result ℕ ℕ → Verdict → Verdict
+or_unfit (Err i) v = Err (Unfit i)
+or_unfit (Ok j) v = v
 
 -- what the profile answers, where measure answers this
 unfoldable pub profiled : List ℕ → Outcome → Verdict
-profiled t o =
-    first ((not (eqb (render.number_of o) 0), Measured o) ∷ ((broken t).broken, Unfit (broken t).at) ∷ []) (Measured o)
+profiled t (Err r) = Measured (Err r)
+profiled t (Ok n) = or_unfit (broken t) (Measured (Ok n))
 
 pub record ProfilesIn (m : Mode) (t x : List ℕ) (verdict : Verdict) : Type 0 where
   pub outcome : Outcome
@@ -79,9 +85,11 @@ pub record ProfilesIn (m : Mode) (t x : List ℕ) (verdict : Verdict) : Type 0 w
 
 -- the number and the place of each verdict
 abbrev pub number_of : Verdict → ℕ
-number_of (Measured o) = render.number_of o
-number_of (Unfit i) = 11
+number_of (Ok n) = 0
+number_of (Err (Measure r)) = render.number_of (Err r)
+number_of (Err (Unfit i)) = 11
 
 abbrev pub place_of : Verdict → ℕ
-place_of (Measured o) = render.place_of o
-place_of (Unfit i) = i
+place_of (Ok n) = n
+place_of (Err (Measure r)) = render.place_of (Err r)
+place_of (Err (Unfit i)) = i

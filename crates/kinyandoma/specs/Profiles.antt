@@ -2,9 +2,8 @@
 use Rattle.std.specs.Prelude.{ℕ, ◌+◌, ◌*◌, ◌^◌, ◌≡◌, List}
 use Rattle.std.proofs.Common.{◌∙◌, ap, sym}
 use Rattle.mode.specs.declared.Mode.{Mode}
-use Rattle.field.specs.declared.Verdict.{Verdict}
 use Rattle.field.specs.Profile as field
-use Rattle.field.specs.Profile.{number_of, place_of}
+use Rattle.field.specs.Profile.{Verdict, number_of, place_of}
 use Rattle.field.specs.Laws as laws
 
 -- number * 2^32 + place

@@ -3,9 +3,8 @@ use Rattle.std.specs.Prelude.{ℕ, ◌+◌, ◌*◌, ◌^◌, ◌≡◌, List}
 use Rattle.std.proofs.Common.{◌∙◌, ap, sym}
 use Rattle.mode.specs.Options.{plain}
 use Rattle.mode.specs.declared.Mode.{Mode}
-use Rattle.render.specs.declared.Outcome.{Outcome}
 use Rattle.render.specs.Render as render
-use Rattle.render.specs.Render.{number_of, place_of}
+use Rattle.render.specs.Render.{Outcome, number_of, place_of}
 use Rattle.render.specs.Laws as laws
 
 -- number * 2^32 + place

@@ -4,15 +4,15 @@ ghost use Rattle.mode.specs.Options.{mode_of};
 ghost use Rattle.field.specs.Profile.{place_of};
 ghost use Rattle.kinyandoma.specs.Profiles.{code as code', ProfilesIn};
 
+use super::joined;
 use field::Verdict;
-use wire::PLACES;
 
 // A verdict as one number.
 fn code(v: Verdict) -> u64
     requires { place_of v < 2 ^ 32 }
     ensures { result ≡ code' v }
 {
-    field::number(v) * PLACES + field::place(v) as u64
+    joined(field::number(v), field::place(v))
 }
 
 // How long the text of a tree is that keeps to the field profile, in the mode that the options stand for (02).

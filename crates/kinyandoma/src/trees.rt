@@ -4,16 +4,16 @@ ghost use Rattle.mode.specs.Options.{mode_of};
 ghost use Rattle.render.specs.Render.{place_of};
 ghost use Rattle.kinyandoma.specs.Trees.{code as code', Measures, Renders, MeasuresIn, RendersIn};
 
+use super::joined;
 use mode::NO_OPTIONS;
 use render::Outcome;
-use wire::PLACES;
 
 // An outcome as one number.
 fn code(o: Outcome) -> u64
     requires { place_of o < 2 ^ 32 }
     ensures { result ≡ code' o }
 {
-    render::number(o) * PLACES + render::place(o) as u64
+    joined(render::number(o), render::place(o))
 }
 
 // How long the text of a tree is, in the mode that the options stand for (02).

@@ -1,39 +1,107 @@
-// What the replaying programs share: reading a case from standard input, and printing a line for it.
+// What the replaying programs share: reading cases from standard input, and printing a line for each.
 #![tactic(auto)]
 
-ghost use Rattle.std.specs.Prelude.{◌≡◌, false, [], ◌∷◌, ◌+◌, ◌*◌, ◌^◌, ◌≤◌, ◌<◌, length};
+ghost use Rattle.std.specs.Prelude.{◌≡◌, false, [], ◌∷◌, ◌*◌, ◌^◌, ◌≤◌, ◌<◌, length};
 ghost use Rattle.laws.specs.Little.{from_little};
-ghost use Rattle.io.specs.Counts.{IsPrefixLen};
 
-// The descriptors of standard input and output.
+use files::STDOUT_FILENO;
+
+// The descriptor of standard input.
 const STDIN_FILENO: i32 = 0;
 
-const STDOUT_FILENO: i32 = 1;
+// The bytes of a number in front of a case.
+const WORD: usize = 4;
 
-// The most digits of a number.
-const DIGITS: usize = 20;
+// The numbers in front of a tree: its options, and how long the tree and the text are.
+const HEAD: usize = 3;
 
-// The most bytes of a number with a byte behind it, and of two.
-const NUMBER: usize = DIGITS + 1;
-
-const NUMBERS: usize = 2 * NUMBER;
+// The most bytes of a tree and of a text, more than the check admits.
+const ROOM: usize = 69632;
 
 // The most bytes that are printed in hex, and their digits.
 const BYTES: usize = 65536;
 
 const HEX: usize = 2 * BYTES;
 
+const DIGITS: [u8; 16] = *b"0123456789abcdef";
+
 // The number that four bytes hold, the lowest first.
 pub fn word(a: u8, b: u8, c: u8, d: u8) -> usize
     ensures { (result ≡ from_little (a ∷ b ∷ c ∷ d ∷ [])) × (result < 2 ^ 32) }
 {
-    a as usize + 256 * (b as usize) + 65536 * (c as usize) + 16777216 * (d as usize)
+    u32::from_le_bytes([a, b, c, d]) as usize
 }
 
 // Reads into all of a part, and answers whether the input had as much.
 pub fn fill(part: &mut [u8]) -> bool {
     let len = part.len();
     io::read_full(STDIN_FILENO, part) == len
+}
+
+// Reads the numbers in front of a case, each of four bytes: none at the end of the input, and where it comes in the midst of them this is printed.
+pub fn head<const N: usize>() -> Option<[u32; N]> {
+    let mut words = [0; N];
+    for i in 0..N {
+        let mut bytes = [0u8; WORD];
+        let got = io::read_full(STDIN_FILENO, &mut bytes);
+        if i == 0 && got == 0 {
+            return None;
+        }
+        if got < WORD {
+            stop(b"cut off\n");
+            return None;
+        }
+        words[i] = u32::from_le_bytes(bytes);
+    }
+    Some(words)
+}
+
+// Replays case after case, as long as one may follow. The turns are counted, up to a number that no input uses up: nothing says that it ends.
+pub fn replay<F: FnMut() -> bool>(mut case: F)
+    requires { F.IsAlwaysCallable case }
+{
+    for _ in 0..u64::MAX {
+        if !case() {
+            return;
+        }
+    }
+}
+
+// Replays a case of a tree by way of two buffers, and answers whether to go on: not at the end of the input.
+fn replay_tree<F: Fn(u32, &[u8], &[u8]) -> bool>(
+    run: &F,
+    trees: &mut [u8],
+    texts: &mut [u8],
+) -> bool
+    requires { F.IsAlwaysCallable run.now }
+{
+    let Some(words) = head::<HEAD>() else {
+        return false;
+    };
+    let [options, tree, text] = words;
+    let (tree, text) = (tree as usize, text as usize);
+    if tree > trees.len() || text > texts.len() {
+        return stop(b"too long for this program\n");
+    }
+    if !fill(&mut trees[..tree]) || !fill(&mut texts[..text]) {
+        return stop(b"cut off\n");
+    }
+    run(options, &trees[..tree], &texts[..text])
+}
+
+// Replays cases of trees. A case is its options, the length of its tree and the length of its text, each of four bytes, little-endian, the tree's
+// bytes, and the text's. What is to be done with them answers whether to go on.
+// (The loop is `replay` over again: that a closure over `run` may be called, `replay-requires`, is not proved.)
+pub fn replay_trees<F: Fn(u32, &[u8], &[u8]) -> bool>(run: F)
+    requires { F.IsAlwaysCallable run }
+{
+    let mut trees = [0u8; ROOM];
+    let mut texts = [0u8; ROOM];
+    for _ in 0..u64::MAX {
+        if !replay_tree(&run, &mut trees, &mut texts) {
+            return;
+        }
+    }
 }
 
 // Prints some bytes as they are, and answers whether they were written.
@@ -49,68 +117,42 @@ pub fn stop(why: &[u8]) -> bool
     false
 }
 
-// Puts a number's digits into a line, the first at `at`, and answers the place behind the last.
-fn put_number(n: u64, line: &mut [u8], at: usize) -> usize
-    requires { at + 20 ≤ length line.old }
-    ensures { result ≤ at + 20 }
-{
-    let mut digits = [0u8; DIGITS];
-    let count = io::decimal(n, &mut digits);
-    for i in 0..count {
-        line[at + i] = digits[i];
-    }
-    at + count
-}
-
 // Prints a number and a byte behind it, and answers whether they were written.
 pub fn print_number(n: u64, behind: u8) -> bool {
-    let mut line = [0u8; NUMBER];
-    let end = put_number(n, &mut line, 0);
-    line[end] = behind;
-    print(&line[..end + 1])
+    io::print_decimal(STDOUT_FILENO, n) && print(&[behind])
 }
 
 // Prints two numbers with a space between them and a byte behind them, and answers whether they were written.
 pub fn print_numbers(a: u64, b: u64, behind: u8) -> bool {
-    let mut line = [0u8; NUMBERS];
-    let space = put_number(a, &mut line, 0);
-    line[space] = b' ';
-    let end = put_number(b, &mut line, space + 1);
-    line[end] = behind;
-    io::write_all(STDOUT_FILENO, &line[..end + 1])
+    print_number(a, b' ') && print_number(b, behind)
 }
 
 // The hexadecimal digit of a number below 16.
 fn digit(n: u8) -> u8
     requires { n < 16 }
 {
-    if n < 10 { b'0' + n } else { b'a' + (n - 10) }
+    DIGITS[n as usize]
 }
 
-// Puts the digits of some bytes at the start of digits, and answers how many there are.
-fn hex(bytes: &[u8], digits: &mut [u8]) -> usize
+// Puts the digits of some bytes at the start of digits.
+fn hex(bytes: &[u8], digits: &mut [u8])
     requires { 2 * length bytes.now ≤ length digits.old }
-    ensures { IsPrefixLen result digits.new }
 {
-    let mut i = 0;
-    while i < bytes.len() {
-        let byte = bytes[i];
+    for (i, byte) in bytes.iter().enumerate() {
         digits[2 * i] = digit(byte / 16);
         digits[2 * i + 1] = digit(byte % 16);
-        i += 1;
     }
-    2 * i
 }
 
 // Prints some bytes in hex, or `-` for none, and answers whether they were written: more than 65,536 are not.
 pub fn print_bytes(bytes: &[u8]) -> bool {
-    if bytes.len() == 0 {
+    if bytes.is_empty() {
         return print(b"-");
     }
     if BYTES < bytes.len() {
         return stop(b"too long for this program\n");
     }
     let mut digits = [0u8; HEX];
-    let n = hex(bytes, &mut digits);
-    print(&digits[..n])
+    hex(bytes, &mut digits);
+    print(&digits[..2 * bytes.len()])
 }

@@ -1,6 +1,6 @@
 -- 02, vii and viii: a caller's options, as the bits of a number. Bit 0 is the switch and bit 1 the SQLite edition; the other bits mean nothing.
 use Rattle.std.specs.Prelude.{ℕ, ◌/◌, ◌%◌, ◌^◌, ◌≡◌, refl, Bool, true, false, cond, eqb}
-use Rattle.std.proofs.Common.{arith, ap}
+use Rattle.std.proofs.Common.{arith}
 use Rattle.mode.specs.declared.Edition.{Edition}
 use Rattle.mode.specs.declared.Edition.TheVariants.{Crate, Sqlite}
 use Rattle.mode.specs.declared.Mode.{Mode}

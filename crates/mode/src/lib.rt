@@ -11,7 +11,7 @@ pub const NO_OPTIONS: u32 = 0;
 const BIT: u32 = 2;
 
 // What the text is written for.
-#[derive(Clone, Copy)]
+#[derive(Clone, Copy, PartialEq, Eq)]
 pub enum Edition {
     // As the crate writes it.
     Crate,
@@ -19,7 +19,7 @@ pub enum Edition {
     Sqlite,
 }
 
-#[derive(Clone, Copy)]
+#[derive(Clone, Copy, PartialEq, Eq)]
 pub struct Mode {
     // 02's switch: a CHECK's source that swallows its bracket is refused.
     pub strict: bool,
@@ -30,10 +30,7 @@ pub struct Mode {
 pub fn sqlite(e: Edition) -> bool
     ensures { result ≡ is_sqlite e }
 {
-    match e {
-        Edition::Crate => false,
-        Edition::Sqlite => true,
-    }
+    matches!(e, Edition::Sqlite)
 }
 
 // The edition that a number of options asks for: bit 1 is SQLite's.

@@ -1,10 +1,10 @@
 -- Laws of the parts that the renderers share.
-use Rattle.std.specs.Prelude.{ℕ, ◌+◌, ◌-◌, ◌%◌, ◌≤◌, ◌<◌, ◌≡◌, refl, List, [], ◌∷◌, Bool, true, false, cond, leb, length, take, drop}
-use Rattle.std.proofs.Common.{arith, sym, ◌∙◌, length-drop, drop_of_length-le, take_all}
+use Rattle.std.specs.Prelude.{ℕ, ◌+◌, ◌-◌, ◌%◌, ◌≤◌, ◌<◌, ◌≡◌, refl, List, [], ◌∷◌, Bool, true, false, cond, leb, ltb, ◌&&◌, length, take, drop}
+use Rattle.std.proofs.Common.{arith, sym, ◌∙◌, subst, length-drop, drop_of_length-le, take_all}
 use Rattle.std.proofs.Math.Nat.{add-sub_cancel_left}
 use Prim.Native.String.{String}
 use Rattle.std.proofs.Math.Seq.{take-nil}
-use borrow.Author.Tests.{eq-eqb, ne_eqb, le-leb, lt-leb}
+use borrow.Author.Tests.{eq-eqb, ne_eqb, le-leb, lt-leb, lt-ltb}
 use Rattle.mode.specs.declared.Edition.{Edition}
 use Rattle.record.specs.Record.{record_at}
 use Rattle.record.specs.declared.Record.{Record}
@@ -21,10 +21,13 @@ use Rattle.stream.specs.Sink as sink
 use Rattle.tokens.specs.Tokens.{Out, token_of, of_kind, rows, listed, placed, comma, means, node}
 use Rattle.pen.specs.declared.Pen.{Pen}
 use Rattle.tokens.specs.Tokens.{in_edition}
-use Rattle.pen.specs.Pen.{Lent, source_of, source, Spot, Past, Puts, Says, Writes, Always}
+use Rattle.pen.specs.declared.Input.{Input}
+use Rattle.std.specs.Borrow.{Bor, MutBor}
+use Rattle.pen.specs.Pen.{Lent, source_of, source, input, input_in, Spot, Past, Puts, Says, Writes, Always}
 use Rattle.pen.specs.Laws.{puts_on}
 use Rattle.pen.specs.Rows.{opt}
 use Rattle.pen.specs.Places.{token_at, index, skipped, entered, optional}
+use Rattle.parts.specs.Lists.{Called, EachPuts, EachBelow}
 use Rattle.parts.specs.Runs.{SaidClause}
 
 -- ---- a part of the text
@@ -103,3 +106,33 @@ said_clause {d = d} s h p = record { puts = λ u. rw (← h) (p.puts d u) }
 
 pub said_clause_unique : (e : Lent) (w v : List ℕ) (a b c : Spot) → SaidClause e w v a b → SaidClause e w v a c → b ≡ c
 said_clause_unique e w v a b c p q = (p.puts 0 Crate).is ∙ sym (q.puts 0 Crate).is
+
+-- ---- the comma before an element: there is none before the first, and there are commas before the others or not
+pub before_first : {A : Type 0} (b : Bool) (ts : List A) → cond (b && ltb 0 0) ts [] ≡ []
+before_first true ts = refl
+before_first false ts = refl
+
+pub before_next : (b : Bool) (i : ℕ) → (b && ltb 0 (i + 1)) ≡ b
+before_next b i = rw (lt-ltb 0 (i + 1) (omega arith)) (by b)
+  where
+    by : (b : Bool) → (b && true) ≡ b
+    by true = refl
+    by false = refl
+
+-- what is written of an element hangs on what is lent, and not on where it lies
+module _ {i : Input} {called : Called} where
+  pub each_of : (f : Input → ℕ → Out) → ((q r : Pen) (o o' : MutBor (List ℕ)) (b : Bor Input) → called q o b r o' → Puts b.now.pool.now (f b.now q.next) (q, o.now) (r, o'.now)) → EachPuts i (f i) called
+  each_of f h q r o o' b e g = subst (λ (j : Input). Puts j.pool.now (f j q.next) (q, o.now) (r, o'.now)) e (h q r o o' b g)
+
+  pub each_in : (e : Input → Lent) {d : ℕ} (c : Class) → EachBelow e d c called → (v : Edition) → EachPuts i (placed (source_of v (e i)) (node (source_of v (e i)) d) c) called
+  unfolding means
+  each_in e {d} c h v = each_of (λ (j : Input). placed (source_of v (e j)) (node (source_of v (e j)) d) c) (λ q r o o' b g. (h q r o o' b g blank).puts v)
+
+  -- a LIST whose elements stand in one place: for every edition, and for the one that is asked for
+  module _ {d : ℕ} {r : Record} {a b : Spot} (c : Class) (sep : Bool)
+      (wrote : (v : Edition) (f : ℕ → Out) → EachPuts i f called → Puts i.pool.now (listed (source_of v (input i)) f (opt sep comma) a.0.next) a b) where
+    pub list_of : EachBelow input d c called → Writes (input i) i.pool.now d r (cond sep (commas c) (row c)) a b
+    list_of h = either c sep (λ v. wrote v _ (each_in input c h v))
+
+    pub list_of_one : EachBelow input_in d c called → Writes (input_in i) i.pool.now d r (cond sep (commas c) (row c)) a b
+    list_of_one h = either c sep (λ v. wrote i.edition _ (each_in input_in c h v))

@@ -1,20 +1,20 @@
 -- How what is written is put together, shape by shape.
 use Rattle.std.specs.Prelude.{ℕ, ◌≡◌, refl, List, [], ◌∷◌, ◌++◌, length}
 use Prim.Native.String.{String}
-use Rattle.std.proofs.Common.{◌∙◌, ap}
+use Rattle.std.proofs.Common.{◌∙◌}
 use Rattle.laws.specs.Text.{ascii}
 use Rattle.spelling.specs.Table.{spelling_in}
 use Rattle.mode.specs.declared.Edition.{Edition}
 use Rattle.mode.specs.declared.Edition.TheVariants.{Crate}
 use Rattle.stream.specs.Stream.{Token}
-use Rattle.stream.specs.Sink.{State, pour, mark, step}
+use Rattle.stream.specs.Sink.{State, mark, step}
 use Rattle.stream.specs.Laws.{pour_length}
 use Rattle.stream.specs.declared.Sink.{Sink}
 use Rattle.record.specs.declared.Record.{Record}
 use Rattle.record.specs.Laws.{nothing as blank}
 use Rattle.grammar.specs.Shape.{Shape, word, said, line, ◌·◌}
 use Rattle.tokens.specs.Corners.{bare, valued, id, newline}
-use Rattle.tokens.specs.Tokens.{Out, say, then, means, node}
+use Rattle.tokens.specs.Tokens.{Out, then, means, node}
 use Rattle.pen.specs.declared.Pen.{Pen}
 use Rattle.pen.specs.Pen.{Lent, source_of, source, source_in, Spot, emit, put, Puts, Says, Writes, Anywhere}
 

@@ -11,6 +11,7 @@ use Rattle.record.specs.declared.Record.{Record}
 use Rattle.grammar.specs.Shape.{Shape}
 use Rattle.tokens.specs.Tokens.{Source, in_edition, Out, say, flagged, means, node}
 use Rattle.pen.specs.declared.Pen.{Pen}
+use Rattle.pen.specs.declared.Input.{Input}
 
 -- the editions that a renderer's promise is for: every one, or the one that it is told
 pub data Scope : Type 0 where
@@ -38,6 +39,13 @@ source t x = lent t x every
 
 abbrev pub source_in : List ℕ → List ℕ → Edition → Lent
 source_in t x v = lent t x (only v)
+
+-- what an input lends: for every edition, and for the one that is asked for
+abbrev pub input : Input → Lent
+input i = source i.tree.now i.text.now
+
+abbrev pub input_in : Input → Lent
+input_in i = source_in i.tree.now i.text.now i.edition
 
 -- a pen and the bytes of the output
 abbrev pub Spot : Type 0

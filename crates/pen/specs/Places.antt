@@ -1,7 +1,7 @@
 -- The ways through a renderer of a place, of an optional part and of a part under a flag or a value of the flags: one law each.
-use Prim.Native.Nat.{ℕ, zero, suc, ◌+◌, ◌-◌, ◌≤◌}
-use Rattle.std.proofs.Common.{arith, sub-one, ◌∙◌, ap, sym, subst}
-use Rattle.std.specs.Prelude.{◌≡◌, List, [], ◌∷◌, Bool, cond, not, ◌||◌, ltb, take, drop}
+use Prim.Native.Nat.{ℕ, zero, suc, ◌-◌, ◌≤◌}
+use Rattle.std.proofs.Common.{arith, sub-one, ◌∙◌, sym, subst}
+use Rattle.std.specs.Prelude.{◌≡◌, List, [], ◌∷◌, Bool, cond, not, ◌||◌, take, drop}
 use Rattle.std.proofs.Math.Path.{refl}
 use Rattle.std.proofs.Math.Bool.{true, false, or-true}
 use Rattle.std.proofs.lemmas.Bool.{false≢true}
@@ -16,7 +16,6 @@ use Rattle.grammar.specs.Shape.{Class, one, Shape, when, is, slot, given, filled
 use Rattle.grammar.specs.Grammar.{run, text, node, shape}
 use Rattle.grammar.specs.Slots.{allowed}
 use Rattle.mode.specs.declared.Edition.{Edition}
-use Rattle.stream.specs.Stream.{Token}
 use Rattle.tokens.specs.Corners.{id}
 use Rattle.tokens.specs.Tokens as tokens
 use Rattle.tokens.specs.Tokens.{Source, Out, at, behind, part, of, of_kind, token_of, flagged, rows, placed, leaf, means}

@@ -1,5 +1,5 @@
 -- Along a row of records: what is still to be written from here is what was to be written at the start.
-use Rattle.std.specs.Prelude.{ℕ, zero, suc, ◌+◌, ◌-◌, ◌≤◌, ◌<◌, ◌≡◌, refl, List, [], ◌∷◌, Bool, cond}
+use Rattle.std.specs.Prelude.{ℕ, zero, suc, ◌+◌, ◌-◌, ◌≤◌, ◌<◌, ◌≡◌, refl, List, [], Bool, cond}
 use native.Mathlib.Omega.{arith}
 use Rattle.std.proofs.Common.{not-suc-le-zero, sub-one}
 use Rattle.stream.specs.Stream.{Token}
@@ -33,3 +33,13 @@ module _ {w : List ℕ} {a : Spot} (f : ℕ → Out) (lead sep : List Token) (n 
   pub row_done : {s : Spot} {o : Out} → n ≤ 0 → put w (rows f lead sep n a.0.next) a ≡ put w o s → Puts w o s a
   unfolding rows put emit
   row_done {s} {o} h e = let z : n ≡ 0 = omega arith in record { is = rw z at e }
+
+-- the same where i of n are written
+module _ {w : List ℕ} {a : Spot} (f : ℕ → Out) (lead sep : List Token) (i n : ℕ) where
+  pub row_next : {b c : Spot} → i < n → Says w lead a b → Puts w (f b.0.next) b c
+      → put w (rows f sep sep (n - (i + 1)) c.0.next) c ≡ put w (rows f lead sep (n - i) a.0.next) a
+  row_next {b} {c} l p q =
+      let one_less : n - (i + 1) ≡ n - i - 1 = omega arith in rw one_less (row_first f lead sep (n - i) (omega arith) p q)
+
+  pub row_end : {s : Spot} {o : Out} → n ≤ i → put w (rows f lead sep (n - i) a.0.next) a ≡ put w o s → Puts w o s a
+  row_end l h = row_done f lead sep (n - i) (omega arith) h

@@ -7,7 +7,7 @@ ghost use Rattle.position.specs.Position.{newline as newline', next as next', li
 const NEWLINE: u8 = 0x0A;
 
 // What is found of some bytes: their newlines, and the bytes behind the last one, which are all where there is none.
-#[derive(Clone, Copy)]
+#[derive(Clone, Copy, PartialEq, Eq)]
 pub struct Found {
     pub lines: usize,
     pub behind: usize,
@@ -17,7 +17,7 @@ pub struct Found {
 fn newline(b: u8) -> usize
     ensures { result ≡ newline' b }
 {
-    if b == NEWLINE { 1 } else { 0 }
+    usize::from(b == NEWLINE)
 }
 
 // The column behind a byte at a column.
@@ -25,10 +25,7 @@ fn next(at: usize, b: u8) -> usize
     requires { at + 1 < 2 ^ 64 }
     ensures { result ≡ next' at b }
 {
-    if b == NEWLINE {
-        return 0;
-    }
-    at + 1
+    if b == NEWLINE { 0 } else { at + 1 }
 }
 
 // The newlines of some bytes, and the bytes behind the last.
@@ -37,11 +34,9 @@ pub fn newlines(s: &[u8]) -> Found
 {
     let mut lines = 0;
     let mut behind = 0;
-    let mut i = 0;
-    while i < s.len() {
-        lines += newline(s[i]);
-        behind = next(behind, s[i]);
-        i += 1;
+    for &b in s {
+        lines += newline(b);
+        behind = next(behind, b);
     }
     Found { lines, behind }
 }

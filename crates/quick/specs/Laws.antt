@@ -1,5 +1,5 @@
 -- Laws of the tokens that are laid at once: what they write, what bit they leave, and that no refusal fits.
-use Rattle.std.specs.Prelude.{ℕ, ◌+◌, ◌-◌, ◌%◌, ◌≤◌, ◌<◌, ◌≡◌, refl, List, [], ◌∷◌, ◌++◌, map, Bool, true, false, not, cond, ◌&&◌, ◌||◌, eqb, leb, ltb, get_or}
+use Rattle.std.specs.Prelude.{ℕ, ◌+◌, ◌-◌, ◌%◌, ◌≤◌, ◌<◌, ◌≡◌, refl, List, [], ◌∷◌, ◌++◌, map, Bool, Option, Some, None, Ok, true, false, not, cond, ◌&&◌, ◌||◌, eqb, leb, ltb, get_or}
 use Rattle.std.proofs.Common.{arith, ◌∙◌, ap, sym, length-append}
 use Rattle.std.proofs.Math.Bool
 use Rattle.std.proofs.Math.Bool.{and-false, or-false}
@@ -10,7 +10,6 @@ use Rattle.laws.specs.Among.{among, all, each}
 use Rattle.laws.specs.Below.{below, at}
 use Rattle.laws.specs.Tests.{and_left, and_right, as_one, beq}
 use Rattle.utf8.specs.Plain.{plain, few, all_plain, no_newline, plain_text}
-use Rattle.utf8.specs.declared.Encoding.TheVariants.{Valid}
 use Rattle.blank.specs.Blank.{all_blank}
 use Rattle.spelling.specs.Token.{TK_ID}
 use Rattle.spelling.specs.Rows.{rows}
@@ -21,14 +20,7 @@ use Rattle.stream.specs.Shapes.{silent_kind, no_length, silent_spelling, silent_
 use Rattle.store.specs.Laid.{lead, room_for, laid_to, laid_out}
 use Rattle.store.specs.Laws as store
 use Rattle.store.specs.Laws.{to_not_apart, at_most_one, laid_no, same_end}
-use Rattle.store.specs.declared.Laid.{Laid}
-use Rattle.store.specs.declared.Laid.TheVariants.{Not as NotLaid, To}
 use Rattle.append.specs.declared.Stream.{Stream}
-use Rattle.append.specs.declared.Answer.{Answer}
-use Rattle.append.specs.declared.Answer.TheVariants.{Added}
-use Rattle.append.specs.declared.Check.TheVariants.{Fine}
-use Rattle.quick.specs.declared.Quick.{Quick}
-use Rattle.quick.specs.declared.Quick.TheVariants.{Not, Done}
 use Rattle.append.specs.Append.{Appends, number_of, present, token_of, news, longest, unsound, room, record_after, output_after}
 use Rattle.append.specs.Ends.{token_lines, token_column}
 use Rattle.append.specs.Lists.{Held}
@@ -152,28 +144,28 @@ module _ (token : ℕ) (a : alone token ≡ true) where
   value_leaves rec value = rw alone_present (value_left rec.spaced kind (spelling kind) value (silent_no_blob kind alone_silent))
 
 -- ---- what `lay_all` did is what comes of the bytes
-none : (t : Bool) (d : ℕ) (l : Laid) → l ≡ cond t (To d) NotLaid → l ≡ NotLaid → t ≡ false
+none : (t : Bool) (d : ℕ) (l : Option ℕ) → l ≡ cond t (Some d) None → l ≡ None → t ≡ false
 none true d l e n = absurd (to_not_apart d (sym e ∙ n))
 none false d l e n = refl
 
-all_of : (t : Bool) (b : Bool) (c d : ℕ) (l : Laid) → l ≡ cond t (To d) NotLaid → l ≡ To c
-    → ◌≡◌ {A = Quick} (Done (record { spaced = b; at = c })) (cond t (Done (record { spaced = b; at = d })) Not)
+all_of : (t : Bool) (b : Bool) (c d : ℕ) (l : Option ℕ) → l ≡ cond t (Some d) None → l ≡ Some c
+    → ◌≡◌ {A = Option Sink} (Some (record { spaced = b; at = c })) (cond t (Some (record { spaced = b; at = d })) None)
 all_of true b c d l e g = rw (same_end c d (sym g ∙ e))
 all_of false b c d l e g = absurd (to_not_apart c (sym g ∙ e))
 
-pub nothing : (may : Bool) (rec : Stream) (out bytes : List ℕ) (bit : Bool) → may ≡ false → Comes may rec out bytes bit Not out
+pub nothing : (may : Bool) (rec : Stream) (out bytes : List ℕ) (bit : Bool) → may ≡ false → Comes may rec out bytes bit None out
 unfolding quick quick_out
 nothing may rec out bytes bit e = rw e (refl, refl)
 
-module _ (rec : Stream) (x : Bool) (v out out' : List ℕ) (l : Laid) (e : l ≡ laid_to rec.count (length out) x v) (f : out' ≡ laid_out rec.count out x v) where
-  pub laid_none : (bytes : List ℕ) (bit : Bool) → l ≡ NotLaid → Comes (room_for rec.count (length out) v) rec out bytes bit Not out'
+module _ (rec : Stream) (x : Bool) (v out out' : List ℕ) (l : Option ℕ) (e : l ≡ laid_to rec.count (length out) x v) (f : out' ≡ laid_out rec.count out x v) where
+  pub laid_none : (bytes : List ℕ) (bit : Bool) → l ≡ None → Comes (room_for rec.count (length out) v) rec out bytes bit None out'
   unfolding laid_to
   laid_none bytes bit n =
       rw (laid_no rec.count x v out out' l e f n)
       (nothing _ rec out bytes bit (none (room_for rec.count (length out) v) (rec.count + length (lead x ++ v)) l e n))
 
-  pub laid_all : (closed y bit : Bool) (c : ℕ) → l ≡ To c → x ≡ closed → y ≡ bit
-      → Comes (room_for rec.count (length out) v) rec out (lead closed ++ v) bit (Done (record { spaced = y; at = c })) out'
+  pub laid_all : (closed y bit : Bool) (c : ℕ) → l ≡ Some c → x ≡ closed → y ≡ bit
+      → Comes (room_for rec.count (length out) v) rec out (lead closed ++ v) bit (Some (record { spaced = y; at = c })) out'
   unfolding laid_to laid_out quick quick_out
   laid_all closed y bit c g p q =
       rw (← p, ← q) (all_of (room_for rec.count (length out) v) y c (rec.count + length (lead x ++ v)) l e g, f)
@@ -196,14 +188,14 @@ module _ (sized : Bool) (rec : Stream) (size token : ℕ) (value : List ℕ) whe
   unfolding value_may
   may_be a p h = rw (a, p, le-leb (length value) longest h)
 
-pub value_comes : (sized : Bool) (rec : Stream) (out : List ℕ) (token : ℕ) (value : List ℕ) (r : Quick) (out' : List ℕ) → alone token ≡ true → sized && all_plain value ≡ true
+pub value_comes : (sized : Bool) (rec : Stream) (out : List ℕ) (token : ℕ) (value : List ℕ) (r : Option Sink) (out' : List ℕ) → alone token ≡ true → sized && all_plain value ≡ true
     → length value ≤ longest
     → Comes (room_for rec.count (length out) value) rec out (lead rec.spaced ++ value) (all_blank value) r out'
     → Comes (value_may sized rec (length out) token value) rec out (news rec token value) (leaves rec.spaced (token_of token value)) r out'
 value_comes sized rec out token value r out' a p h c =
     rw (may_be sized rec (length out) token value a p h, ← value_news token a rec value, ← value_leaves token a rec value) c
 
--- few bytes are not over_long
+-- few bytes are not over-long
 pub few_short : (value : List ℕ) → few value && all_plain value ≡ true → length value ≤ longest
 few_short value e = omega (arith, leb-true (length value) 16 (and_left (few value) (all_plain value) e))
 
@@ -212,13 +204,13 @@ pub with_value : (rec : Stream) (size token : ℕ) → present token ≡ true �
 unfolding word_may
 with_value rec size token p = rw p
 
-pub word_comes : (rec : Stream) (out : List ℕ) (token : ℕ) (w : List ℕ) (r : Quick) (out' : List ℕ) → w ≡ spelling (number_of token) → present token ≡ false
+pub word_comes : (rec : Stream) (out : List ℕ) (token : ℕ) (w : List ℕ) (r : Option Sink) (out' : List ℕ) → w ≡ spelling (number_of token) → present token ≡ false
     → Comes (room_for rec.count (length out) w) rec out (news rec token []) (leaves rec.spaced (token_of token [])) r out'
     → Comes (word_may rec (length out) token) rec out (news rec token []) (leaves rec.spaced (token_of token [])) r out'
 unfolding word_may
 word_comes rec out token w r out' e p c = rw (p, ← e) c
 
-module _ (rec : Stream) (out : List ℕ) (token : ℕ) (w : List ℕ) (r : Quick) (out' : List ℕ) (e : w ≡ spelling (number_of token)) (p : present token ≡ false) where
+module _ (rec : Stream) (out : List ℕ) (token : ℕ) (w : List ℕ) (r : Option Sink) (out' : List ℕ) (e : w ≡ spelling (number_of token)) (p : present token ≡ false) where
   bare_comes : (tight-is opens-is : Bool) → (length w ≡ 0 → ⊥) → tight (number_of token) ≡ tight-is → opens (number_of token) ≡ opens-is
       → Comes (room_for rec.count (length out) w) rec out (lead (rec.spaced || tight-is) ++ w) opens-is r out'
       → Comes (room_for rec.count (length out) w) rec out (news rec token []) (leaves rec.spaced (token_of token [])) r out'
@@ -242,21 +234,21 @@ module _ (rec : Stream) (out : List ℕ) (token : ℕ) (w : List ℕ) (r : Quick
       bare_comes false false s (word_tight (number_of token) z n) (word_opens (number_of token) z n) (rw (or-false rec.spaced) c)
 
 -- ---- a token that was laid was appended
-not_done_apart : (s : Sink) → Done s ≡ Not → ⊥
+not_done_apart : (s : Sink) → ◌≡◌ {A = Option Sink} (Some s) None → ⊥
 not_done_apart s e = let z : ◌≡◌ {A = ℕ} 0 1 = cc in omega arith
 
-same_left : (s t : Sink) → Done s ≡ Done t → s ≡ t
+same_left : (s t : Sink) → ◌≡◌ {A = Option Sink} (Some s) (Some t) → s ≡ t
 same_left s t e = cc
 
-was : (may : Bool) (s t : Sink) (out o bytes : List ℕ) (r : Quick) → r ≡ cond may (Done t) Not → o ≡ cond may bytes out → r ≡ Done s → (may ≡ true) × ((s ≡ t) × (o ≡ bytes))
+was : (may : Bool) (s t : Sink) (out o bytes : List ℕ) (r : Option Sink) → r ≡ cond may (Some t) None → o ≡ cond may bytes out → r ≡ Some s → (may ≡ true) × ((s ≡ t) × (o ≡ bytes))
 was true s t out o bytes r e f g = (refl, (same_left s t (sym g ∙ e), f))
 was false s t out o bytes r e f g = absurd (not_done_apart s (sym g ∙ e))
 
-was_not : (may : Bool) (t : Sink) (out o bytes : List ℕ) (r : Quick) → r ≡ cond may (Done t) Not → o ≡ cond may bytes out → r ≡ Not → o ≡ out
+was_not : (may : Bool) (t : Sink) (out o bytes : List ℕ) (r : Option Sink) → r ≡ cond may (Some t) None → o ≡ cond may bytes out → r ≡ None → o ≡ out
 was_not true t out o bytes r e f g = absurd (not_done_apart t (sym e ∙ g))
 was_not false t out o bytes r e f g = f
 
-pub not_done : (may : Bool) (rec : Stream) (out bytes : List ℕ) (bit : Bool) (r : Quick) (out' : List ℕ) → Comes may rec out bytes bit r out' → r ≡ Not → out' ≡ out
+pub not_done : (may : Bool) (rec : Stream) (out bytes : List ℕ) (bit : Bool) (r : Option Sink) (out' : List ℕ) → Comes may rec out bytes bit r out' → r ≡ None → out' ≡ out
 unfolding quick quick_out
 not_done may rec out bytes bit r out' c g = was_not may _ out out' (sets out rec.count bytes) r c.0 c.1 g
 
@@ -271,7 +263,7 @@ plain_lines (x ∷ v) t =
 -- what is known of a token that may be laid at once
 record May (rec : Stream) (out : List ℕ) (token : ℕ) (value : List ℕ) : Type 0 where
   fits : rec.count + length (news rec token value) ≤ length out
-  checks : Checks rec (length out) token value Fine
+  checks : Checks rec (length out) token value (Ok tt)
   lent : not (present token) && ltb 0 (length value) ≡ false
   no_lines : lines value ≡ 0
 
@@ -279,10 +271,10 @@ record May (rec : Stream) (out : List ℕ) (token : ℕ) (value : List ℕ) : Ty
 pub record Laid_is (rec : Stream) (out : List ℕ) (token : ℕ) (value : List ℕ) (s : Sink) (out' : List ℕ) : Type 0 where
   pub on : rec.count ≤ s.at
   pub within : s.at ≤ length out
-  pub appends : Appends rec out token value (Added (s.at - rec.count)) (on_line rec s) out'
+  pub appends : Appends rec out token value (Ok (s.at - rec.count)) (on_line rec s) out'
 
-done : (may : Bool) (rec : Stream) (out : List ℕ) (token : ℕ) (value : List ℕ) (s : Sink) (r : Quick) (out' : List ℕ) → (may ≡ true → May rec out token value)
-    → Comes may rec out (news rec token value) (leaves rec.spaced (token_of token value)) r out' → r ≡ Done s → Laid_is rec out token value s out'
+done : (may : Bool) (rec : Stream) (out : List ℕ) (token : ℕ) (value : List ℕ) (s : Sink) (r : Option Sink) (out' : List ℕ) → (may ≡ true → May rec out token value)
+    → Comes may rec out (news rec token value) (leaves rec.spaced (token_of token value)) r out' → r ≡ Some s → Laid_is rec out token value s out'
 unfolding quick quick_out room record_after output_after news
 done may rec out token value s r out' k c g =
     let w = was may s _ out out' (sets out rec.count (news rec token value)) r c.0 c.1 g in
@@ -298,7 +290,7 @@ done may rec out token value s r out' k c g =
       on = omega arith;
       within = omega (arith, m.fits);
       appends =
-          accepted rec out token value Fine (Added (s.at - rec.count)) (on_line rec s) out' m.checks refl
+          accepted rec out token value (Ok tt) (Ok (s.at - rec.count)) (on_line rec s) out' m.checks refl
           (record {
             answers = rw (d, le-ltb (length out - rec.count) n (omega (arith, m.fits)));
             leave = rw (d, counts, bits, ← line, ← on-column);
@@ -328,13 +320,13 @@ value_may_lem sized rec out token value h t =
     let within : rec.count ≤ length out = omega (arith, store.room rec.count (length out) value m) in
     record {
       fits = rw (← value_news token a rec value) (led rec out value rec.spaced m);
-      checks = fine rec (length out) token value true (sound rec (length out) h within) (sym (alone_known token a)) true refl (sym (alone_present token a)) refl Valid 0 l (plain_text value p) refl refl;
+      checks = fine rec (length out) token value true (sound rec (length out) h within) (sym (alone_known token a)) true refl (sym (alone_present token a)) refl (Ok tt) l (plain_text value p) refl;
       lent = rw (alone_present token a);
       no_lines = plain_lines value p;
     }
 
-pub value_done : (sized : Bool) (rec : Stream) (out : List ℕ) (token : ℕ) (value : List ℕ) (s : Sink) (r : Quick) (out' : List ℕ) → Held rec
-    → Comes (value_may sized rec (length out) token value) rec out (news rec token value) (leaves rec.spaced (token_of token value)) r out' → r ≡ Done s
+pub value_done : (sized : Bool) (rec : Stream) (out : List ℕ) (token : ℕ) (value : List ℕ) (s : Sink) (r : Option Sink) (out' : List ℕ) → Held rec
+    → Comes (value_may sized rec (length out) token value) rec out (news rec token value) (leaves rec.spaced (token_of token value)) r out' → r ≡ Some s
     → Laid_is rec out token value s out'
 value_done sized rec out token value s r out' h =
     done (value_may sized rec (length out) token value) rec out token value s r out' (value_may_lem sized rec out token value h)
@@ -356,8 +348,8 @@ word_may_lem rec out token h t =
       no_lines = refl;
     }
 
-pub word_done : (rec : Stream) (out : List ℕ) (token : ℕ) (value : List ℕ) (s : Sink) (r : Quick) (out' : List ℕ) → Held rec → length value ≡ 0
-    → Comes (word_may rec (length out) token) rec out (news rec token []) (leaves rec.spaced (token_of token [])) r out' → r ≡ Done s
+pub word_done : (rec : Stream) (out : List ℕ) (token : ℕ) (value : List ℕ) (s : Sink) (r : Option Sink) (out' : List ℕ) → Held rec → length value ≡ 0
+    → Comes (word_may rec (length out) token) rec out (news rec token []) (leaves rec.spaced (token_of token [])) r out' → r ≡ Some s
     → Laid_is rec out token value s out'
 word_done rec out token value s r out' h n c g =
     rw (no_length value (eq-eqb (length value) 0 n))

@@ -1,4 +1,5 @@
 pub mod Laws
+pub mod Blanks
 pub mod Finds
 pub mod Numbers
 pub mod Turns

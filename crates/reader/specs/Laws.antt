@@ -1,6 +1,6 @@
 -- What is taken from a place of a text on, a byte at a time: where it ends is the same from the next place on, or is here.
-use Rattle.std.specs.Prelude.{ℕ, ◌+◌, ◌≤◌, ◌<◌, ◌≡◌, refl, List, [], ◌∷◌, Bool, true, false, eqb, leb, length, drop, get_or}
-use Rattle.std.proofs.Common.{arith, add-one, ◌∙◌, sym, length-append, drop_of_length-le, drop-cons, ne_eqb, leb-true, leb-false}
+use Rattle.std.specs.Prelude.{ℕ, ◌+◌, ◌≤◌, ◌<◌, ◌≡◌, refl, List, [], ◌∷◌, Bool, true, false, eqb, leb, length, drop, get_or, Some, None}
+use Rattle.std.proofs.Common.{arith, ap, add-one, ◌∙◌, sym, length-append, drop_of_length-le, drop-cons, ne_eqb, leb-true, leb-false}
 use Rattle.std.proofs.lemmas.Bool.{false≢true}
 use Rattle.reading.specs.Bytes.{apostrophe}
 use Rattle.reading.specs.Number.{Taken, taken, unclosed, after, takes}
@@ -16,33 +16,33 @@ pub byte_then : (t : List ℕ) (i : ℕ) → i < length t → drop i t ≡ get_o
 byte_then t i h = rw (add-one i) (drop-cons t i 0 h)
 
 pub past_after : (at : ℕ) (v : List ℕ) (x : Taken) → past at (after v x) ≡ past (at + length v) x
-past_after at v (taken w r) = omega (arith, length-append v w)
+past_after at v (taken w r) = ap Some (omega (arith, length-append v w))
 past_after at v unclosed = refl
 
-pub takes_off : (p : ℕ → Bool) (t : List ℕ) (i : ℕ) → i < length t → p (get_or t i 0) ≡ false → past i (takes p (drop i t)) ≡ i
+pub takes_off : (p : ℕ → Bool) (t : List ℕ) (i : ℕ) → i < length t → p (get_or t i 0) ≡ false → past i (takes p (drop i t)) ≡ Some i
 unfolding takes
-takes_off p t i h e = rw (byte_then t i h, e) (omega arith)
+takes_off p t i h e = rw (byte_then t i h, e) (ap Some (omega arith))
 
-pub takes_end : (p : ℕ → Bool) (t : List ℕ) (i : ℕ) → length t ≤ i → past i (takes p (drop i t)) ≡ i
+pub takes_end : (p : ℕ → Bool) (t : List ℕ) (i : ℕ) → length t ≤ i → past i (takes p (drop i t)) ≡ Some i
 unfolding takes
-takes_end p t i h = rw (drop_of_length-le t h) (omega arith)
+takes_end p t i h = rw (drop_of_length-le t h) (ap Some (omega arith))
 
-pub closing_once : (q : ℕ) (t : List ℕ) (i : ℕ) → i + 1 < length t → get_or t i 0 ≡ q → (get_or t (i + 1) 0 ≡ q → ⊥) → past i (closing q (drop i t)) ≡ i + 1
+pub closing_once : (q : ℕ) (t : List ℕ) (i : ℕ) → i + 1 < length t → get_or t i 0 ≡ q → (get_or t (i + 1) 0 ≡ q → ⊥) → past i (closing q (drop i t)) ≡ Some (i + 1)
 closing_once q t i h e n =
     rw (byte_then t i (omega arith), byte_then t (i + 1) h, e, closing_last q (get_or t (i + 1) 0 ∷ drop (i + 1 + 1) t) (rw (ne_eqb (get_or t (i + 1) 0) q n)))
 
-pub closing_at_end : (q : ℕ) (t : List ℕ) (i : ℕ) → i < length t → length t ≤ i + 1 → get_or t i 0 ≡ q → past i (closing q (drop i t)) ≡ i + 1
+pub closing_at_end : (q : ℕ) (t : List ℕ) (i : ℕ) → i < length t → length t ≤ i + 1 → get_or t i 0 ≡ q → past i (closing q (drop i t)) ≡ Some (i + 1)
 closing_at_end q t i h l e = rw (byte_then t i h, drop_of_length-le t l, e, closing_last q [] refl)
 
-pub closing_never : (q : ℕ) (t : List ℕ) (i : ℕ) → length t ≤ i → past i (closing q (drop i t)) ≡ 0
+pub closing_never : (q : ℕ) (t : List ℕ) (i : ℕ) → length t ≤ i → past i (closing q (drop i t)) ≡ None
 unfolding closing
 closing_never q t i h = rw (drop_of_length-le t h)
 
-pub through_here : (t : List ℕ) (i : ℕ) → i < length t → get_or t i 0 ≡ apostrophe → past i (through apostrophe (drop i t)) ≡ i + 1
+pub through_here : (t : List ℕ) (i : ℕ) → i < length t → get_or t i 0 ≡ apostrophe → past i (through apostrophe (drop i t)) ≡ Some (i + 1)
 unfolding through
 through_here t i h e = rw (byte_then t i h, e)
 
-pub through_never : (t : List ℕ) (i : ℕ) → length t ≤ i → past i (through apostrophe (drop i t)) ≡ 0
+pub through_never : (t : List ℕ) (i : ℕ) → length t ≤ i → past i (through apostrophe (drop i t)) ≡ None
 unfolding through
 through_never t i h = rw (drop_of_length-le t h)
 

@@ -1,4 +1,6 @@
 pub mod Reader
+pub mod Kinds
+pub mod Named
 pub mod Places
 pub mod Sorts
 pub mod Laws

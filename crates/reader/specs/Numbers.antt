@@ -1,5 +1,5 @@
 -- Where a number ends: behind its digits, or behind a dot and digits.
-use Rattle.std.specs.Prelude.{ℕ, ◌+◌, ◌≤◌, ◌<◌, ◌≡◌, refl, List, [], ◌∷◌, ◌++◌, Bool, true, false, cond, ◌&&◌, eqb, length, drop, get_or}
+use Rattle.std.specs.Prelude.{ℕ, ◌+◌, ◌≤◌, ◌<◌, ◌≡◌, refl, List, [], ◌∷◌, ◌++◌, Bool, true, false, cond, ◌&&◌, eqb, length, drop, get_or, Some}
 use Rattle.std.proofs.Common.{arith, not-suc-le-zero, sym, ap, ◌∙◌, length-append, length-drop, drop-drop}
 use Rattle.std.proofs.Math.Seq.{drop-append_seam}
 use Rattle.reading.specs.Bytes.{digit, dot}
@@ -9,17 +9,17 @@ use Rattle.reader.specs.Laws.{byte_then}
 use Rattle.reader.specs.Splits.{takes_splits}
 
 -- bytes of a sort are never left open
-record Some (x : Taken) : Type 0 where
+record Whole (x : Taken) : Type 0 where
   word : List ℕ
   rest : List ℕ
   is : x ≡ taken word rest
 
-takes_some : (p : ℕ → Bool) (t : List ℕ) → Some (takes p t)
+takes_some : (p : ℕ → Bool) (t : List ℕ) → Whole (takes p t)
 unfolding takes
 takes_some p [] = record { word = []; rest = []; is = refl }
 takes_some p (b ∷ t) = by (p b) (takes_some p t)
   where
-    by : (c : Bool) → Some (takes p t) → Some (cond c (after (b ∷ []) (takes p t)) (taken [] (b ∷ t)))
+    by : (c : Bool) → Whole (takes p t) → Whole (cond c (after (b ∷ []) (takes p t)) (taken [] (b ∷ t)))
     by true s = record { word = b ∷ s.word; rest = s.rest; is = rw s.is }
     by false s = record { word = []; rest = b ∷ t; is = refl }
 
@@ -40,8 +40,11 @@ taking p t i l =
       inside = omega (arith, ap length h, length-append s.word s.rest, length-drop i t);
     }
 
-pub takes_inside : (p : ℕ → Bool) (t : List ℕ) (i e : ℕ) → i ≤ length t → e ≡ past i (takes p (drop i t)) → e ≤ length t
-takes_inside p t i e l h = let s = taking p t i l in rw (h, s.is) s.inside
+pub some_is : (m n : ℕ) → Some m ≡ Some n → m ≡ n
+some_is m n e = cc
+
+pub takes_inside : (p : ℕ → Bool) (t : List ℕ) (i e : ℕ) → i ≤ length t → Some e ≡ past i (takes p (drop i t)) → e ≤ length t
+takes_inside p t i e l h = let s = taking p t i l in rw (some_is _ _ (h ∙ ap (past i) s.is)) s.inside
 
 -- a number is its first digit, the digits behind it, and what a dot adds to them
 pub number_is : (t : List ℕ) (at : ℕ) → at < length t → (s : Taking digit t (at + 1)) → (e : ℕ) → e ≡ at + 1 + length s.word
@@ -50,12 +53,12 @@ unfolding number
 number_is t at l s e h = rw (s.is, h)
 
 -- no dot with a digit behind it
-pub number_whole : (t : List ℕ) (at e : ℕ) → at < length t → e ≡ past (at + 1) (takes digit (drop (at + 1) t))
-    → ((v : List ℕ) → pointed (taken v (drop e t)) ≡ taken v (drop e t)) → e ≡ past at (number (get_or t at 0) (drop (at + 1) t))
+pub number_whole : (t : List ℕ) (at e : ℕ) → at < length t → Some e ≡ past (at + 1) (takes digit (drop (at + 1) t))
+    → ((v : List ℕ) → pointed (taken v (drop e t)) ≡ taken v (drop e t)) → Some e ≡ past at (number (get_or t at 0) (drop (at + 1) t))
 number_whole t at e l h none =
     let s = taking digit t (at + 1) (omega arith) in
-    let place : e ≡ at + 1 + length s.word = h ∙ ap (past (at + 1)) s.is in
-    rw (number_is t at l s e place, none (get_or t at 0 ∷ s.word)) (omega arith)
+    let place : e ≡ at + 1 + length s.word = some_is e (at + 1 + length s.word) (h ∙ ap (past (at + 1)) s.is) in
+    rw (number_is t at l s e place, none (get_or t at 0 ∷ s.word)) (ap Some (omega arith))
 
 pub no_dot_left : (t : List ℕ) (e : ℕ) → e ≤ length t → length t ≤ e + 1 → (v : List ℕ) → pointed (taken v (drop e t)) ≡ taken v (drop e t)
 unfolding pointed

@@ -1,24 +1,28 @@
 -- The reading by places of a text: where what is taken from a place on ends. Only private contracts cite it.
-use Rattle.std.specs.Prelude.{ℕ, ◌+◌, ◌≤◌, ◌≡◌, List, [], ◌∷◌, Bool, false, cond, ◌||◌, ◌&&◌, leb, eqb, length, drop}
+use Rattle.std.specs.Prelude.{ℕ, ◌+◌, ◌≤◌, ◌≡◌, List, [], ◌∷◌, Bool, false, ◌||◌, ◌&&◌, leb, length, drop, Option, Some, None}
 use Rattle.laws.specs.Among.{among}
 use Rattle.reading.specs.Bytes.{blanks}
 use Rattle.reading.specs.Number.{Taken, taken, unclosed}
 use Rattle.reading.specs.Reading.{Read, read}
-use Rattle.reader.specs.Reader.{stop, GivesOf}
+use Rattle.reader.specs.Reader.{GivesOf}
+use Rattle.reader.specs.Kinds.{number_of}
+use Rattle.reader.specs.declared.Kind.{Kind}
+use Rattle.reader.specs.declared.Kind.TheVariants.{Stop}
 use Rattle.reader.specs.declared.Lexeme.{Lexeme}
 
 -- "an ASCII letter"
 unfoldable pub letter : ℕ → Bool
 letter b = (leb 0x41 b && leb b 0x5A) || (leb 0x61 b && leb b 0x7A)
 
--- the place behind what is taken from a place on; 0 where a quote is not closed
-abbrev pub past : ℕ → Taken → ℕ
-past at (taken w r) = at + length w
-past at unclosed = 0
+-- the place behind what is taken from a place on; none where a quote is not closed
+abbrev pub past : ℕ → Taken → Option ℕ
+past at (taken w r) = Some (at + length w)
+past at unclosed = None
 
 -- a lexeme from a place to its end, or what cannot be read there
-abbrev pub closed : ℕ → ℕ → ℕ → Lexeme
-closed kind start e = cond (eqb e 0) (record { kind = stop; start = start; end = start }) (record { kind = kind; start = start; end = e })
+abbrev pub closed : Kind → ℕ → Option ℕ → Lexeme
+closed kind start (Some e) = record { kind = kind; start = start; end = e }
+closed kind start None = record { kind = Stop; start = start; end = start }
 
 -- a text that is at its end, or begins with a byte that is no blank
 abbrev pub bare : List ℕ → Type 0
@@ -33,7 +37,7 @@ pub record Skips (t : List ℕ) (at : ℕ) : Type 0 where
 
 -- what stands next in a text, as a reading says it
 pub record Found (x : Read) (t : List ℕ) (l : Lexeme) : Type 0 where
-  pub gives : GivesOf x (length t) l.kind l.start (drop l.end t)
+  pub gives : GivesOf x (length t) (number_of l.kind) l.start (drop l.end t)
   pub inside : l.end ≤ length t
 
 -- what stands at a place of a text that is no blank's

@@ -1,9 +1,9 @@
--- The sorts of bytes as the code tests them, each by a test that is computed at all 256 bytes; and what a byte of a sort begins.
+-- The sorts of bytes, each by a test that is computed at all 256 bytes; and what a byte of a sort begins.
 use Rattle.std.specs.Prelude.{ℕ, zero, suc, ◌<◌, ◌≡◌, refl, List, [], ◌∷◌, Bool, true, false, not, ◌||◌, ◌&&◌, leb, eqb}
 use Rattle.std.proofs.Common.{arith, not-suc-le-zero, sym, ap, ◌∙◌, eqb-true}
 use Rattle.std.proofs.Math.Bool
 use Rattle.std.proofs.Math.Bool.{or-false, or_assoc}
-use Rattle.std.specs.Int.Bits.{bit_or}
+use Rattle.std.specs.Char.{is_ascii_digit, is_ascii_alphabetic}
 use Rattle.laws.specs.Among.{among}
 use Rattle.laws.specs.Below.{below, at}
 use Rattle.laws.specs.First.{first}
@@ -18,13 +18,13 @@ use Rattle.reader.specs.Places.{letter}
 alike : (f g : ℕ → Bool) → below (λ b. Bool.beq (f b) (g b)) 256 ≡ true → (b : ℕ) → b < 256 → f b ≡ g b
 alike f g t b h = beq (f b) (g b) (at (λ c. Bool.beq (f c) (g c)) 256 t b h)
 
-pub a_digit : (b : ℕ) → b < 256 → leb 0x30 b && leb b 0x39 ≡ digit b
+pub a_digit : (b : ℕ) → b < 256 → is_ascii_digit b ≡ digit b
 unfolding digit
-a_digit = alike (λ b. leb 0x30 b && leb b 0x39) digit refl
+a_digit = alike is_ascii_digit digit refl
 
-pub a_letter : (b : ℕ) → b < 256 → leb 0x61 (bit_or b 0x20) && leb (bit_or b 0x20) 0x7A ≡ letter b
+pub a_letter : (b : ℕ) → b < 256 → is_ascii_alphabetic b ≡ letter b
 unfolding letter
-a_letter = alike (λ b. leb 0x61 (bit_or b 0x20) && leb (bit_or b 0x20) 0x7A) letter refl
+a_letter = alike is_ascii_alphabetic letter refl
 
 pub an_operator : (b : ℕ) → b < 256
     → eqb b 0x2B || (eqb b 0x2D || (eqb b 0x2A || (eqb b 0x2F || (eqb b 0x25 || (eqb b 0x3D || (eqb b 0x3C || (eqb b 0x3E || (eqb b 0x21 || (eqb b 0x26 || (eqb b 0x7C || eqb b 0x7E))))))))))

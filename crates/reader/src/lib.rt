@@ -1,58 +1,83 @@
 // One lexeme of a text, by the reading rule (01, section 5; 02, iii): its kind, where it starts, and the rest of the text behind it.
 #![tactic(auto)]
 
-ghost use Rattle.std.specs.Prelude.{◌≡◌, ◌+◌, ◌≤◌, ◌<◌, length, drop, get_or, false, ◌&&◌};
+ghost use Rattle.std.specs.Prelude.{ℕ, Bool, ◌≡◌, ◌+◌, ◌≤◌, ◌<◌, length, drop, get_or, Some, ◌&&◌, ◌||◌, eqb};
 ghost use Rattle.laws.specs.Among.{among};
 ghost use Rattle.reading.specs.Bytes.{digit as digit', word_first as word_first', word_byte as word_byte', blanks, variables, quotes, marks, exes, apostrophe};
 ghost use Rattle.reading.specs.Number.{takes, number as number'};
 ghost use Rattle.reading.specs.Reading.{operator_byte as operator_byte', through, closing, opened, read as read'};
-ghost use Rattle.reader.specs.Reader.{Gives};
+ghost use Rattle.reader.specs.Reader.{end, stop, Gives};
+ghost use Rattle.reader.specs.Kinds.{number_of, Names};
 ghost use Rattle.reader.specs.Places.{letter as letter', past, closed as closed', Skips, Found, FoundAt};
 
-// What a text may have next, as 02's readings number it.
-pub const END: u32 = 0;
+// What a text may have next.
+#[derive(Clone, Copy, PartialEq, Eq)]
+pub enum Kind {
+    End,
+    Word,
+    Number,
+    Quoted,
+    Blob,
+    Variable,
+    Operator,
+    Mark,
+    Stop,
+}
 
-pub const WORD: u32 = 1;
+// The number that 02's readings give it.
+impl From<Kind> for u32 {
+    ghost from_gives = { λ kind n. n ≡ number_of kind };
 
-pub const NUMBER: u32 = 2;
+    fn from(kind: Kind) -> u32 {
+        kind as u32
+    }
+}
 
-pub const QUOTED: u32 = 3;
+// A number that no kind has.
+#[derive(Clone, Copy, PartialEq, Eq)]
+pub struct UnknownKind(pub u32);
 
-pub const BLOB: u32 = 4;
+impl TryFrom<u32> for Kind {
+    type Error = UnknownKind;
 
-pub const VARIABLE: u32 = 5;
+    ghost try_from_gives = { Names };
 
-pub const OPERATOR: u32 = 6;
+    fn try_from(number: u32) -> Result<Self, UnknownKind> {
+        match number {
+            0 => Ok(Kind::End),
+            1 => Ok(Kind::Word),
+            2 => Ok(Kind::Number),
+            3 => Ok(Kind::Quoted),
+            4 => Ok(Kind::Blob),
+            5 => Ok(Kind::Variable),
+            6 => Ok(Kind::Operator),
+            7 => Ok(Kind::Mark),
+            8 => Ok(Kind::Stop),
+            _ => Err(UnknownKind(number)),
+        }
+    }
+}
 
-pub const MARK: u32 = 7;
+impl Kind {
+    // Whether a reading ends with it: at the end, and at what cannot be read.
+    pub fn is_last(self) -> bool
+        ensures { result ≡ (eqb (number_of self) end || eqb (number_of self) stop) }
+    {
+        matches!(self, Kind::End | Kind::Stop)
+    }
+}
 
-pub const STOP: u32 = 8;
-
-const SPACE: u8 = b' ';
-
-const NEWLINE: u8 = 0x0A;
-
-const APOSTROPHE: u8 = 0x27;
-
-const DOUBLE_QUOTE: u8 = 0x22;
-
-const BACKTICK: u8 = b'`';
+const APOSTROPHE: u8 = b'\'';
 
 const DOT: u8 = b'.';
 
 // The first byte that is not ASCII: it is a word's.
 const BEYOND_ASCII: u8 = 0x80;
 
-// The bit by which a capital differs from the small letter.
-const CASE: u8 = 0x20;
-
-// The end of what is not closed: no lexeme ends at 0.
-const UNCLOSED: usize = 0;
-
 // What stands next in a text: a lexeme of a kind from `start` to `end`, the end, or what cannot be read. The rest begins at `end`.
 #[derive(Clone, Copy)]
 struct Lexeme {
-    kind: u32,
+    kind: Kind,
     start: usize,
     end: usize,
 }
@@ -61,167 +86,107 @@ struct Lexeme {
 fn blank(b: u8) -> bool
     ensures { result ≡ among b blanks }
 {
-    (b == SPACE) | (b == NEWLINE)
+    matches!(b, b' ' | b'\n')
 }
 
 // Whether a byte is a mark.
 fn mark(b: u8) -> bool
     ensures { result ≡ among b marks }
 {
-    (b == b',')
-        | ((b == b';') | ((b == b'(') | ((b == b')') | ((b == DOT) | ((b == b'[') | (b == b']'))))))
+    matches!(b, b',' | b';' | b'(' | b')' | b'.' | b'[' | b']')
 }
 
 // Whether a byte is one of the three quotes.
 fn quote(b: u8) -> bool
     ensures { result ≡ among b quotes }
 {
-    (b == APOSTROPHE) | ((b == DOUBLE_QUOTE) | (b == BACKTICK))
+    matches!(b, b'\'' | b'"' | b'`')
 }
 
+// Whether a byte is a digit.
 fn digit(b: u8) -> bool
     ensures { result ≡ digit' b }
 {
-    (b'0' <= b) & (b <= b'9')
+    b.is_ascii_digit()
 }
 
 // Whether a byte is a letter.
 fn letter(b: u8) -> bool
     ensures { result ≡ letter' b }
 {
-    let small = b | CASE;
-    (b'a' <= small) & (small <= b'z')
+    b.is_ascii_alphabetic()
 }
 
 // Whether a byte begins a word.
+#[tactic(auto, unfolding(reading::specs::Bytes::word_first, crate::specs::Places::letter))]
 fn word_first(b: u8) -> bool
     ensures { result ≡ word_first' b }
 {
-    if letter(b) {
-        return true;
-    }
-    (b == b'_') | (BEYOND_ASCII <= b)
+    letter(b) || b == b'_' || BEYOND_ASCII <= b
 }
 
 // Whether a byte goes on with a word.
+#[tactic(auto, unfolding(reading::specs::Bytes::word_byte))]
 fn word_byte(b: u8) -> bool
     ensures { result ≡ word_byte' b }
 {
-    if letter(b) {
-        return true;
-    }
-    (b == b'_') | ((BEYOND_ASCII <= b) | (digit(b) | (b == b'$')))
+    word_first(b) || digit(b) || b == b'$'
 }
 
 // Whether a byte begins a variable.
 fn variable(b: u8) -> bool
     ensures { result ≡ among b variables }
 {
-    (b == b'?') | ((b == b':') | ((b == b'@') | (b == b'$')))
-}
-
-// Whether a byte begins a blob, where a quote is next.
-fn blob_first(b: u8) -> bool
-    ensures { result ≡ among b exes }
-{
-    (b == b'X') | (b == b'x')
+    matches!(b, b'?' | b':' | b'@' | b'$')
 }
 
 // Whether a byte occurs in an operator.
+#[tactic(auto, unfolding(reading::specs::Reading::operator_byte, reading::specs::Lexeme::operators))]
 fn operator_byte(b: u8) -> bool
     ensures { result ≡ operator_byte' b }
 {
-    (b == b'+')
-        | ((b == b'-')
-            | ((b == b'*')
-                | ((b == b'/')
-                    | ((b == b'%')
-                        | ((b == b'=')
-                            | ((b == b'<')
-                                | ((b == b'>')
-                                    | ((b == b'!')
-                                        | ((b == b'&') | ((b == b'|') | (b == b'~')))))))))))
+    matches!(
+        b,
+        b'+' | b'-' | b'*' | b'/' | b'%' | b'=' | b'<' | b'>' | b'!' | b'&' | b'|' | b'~'
+    )
+}
+
+// Where the bytes of a sort from a place on end.
+fn bytes_end<S: Fn(u8) -> bool>(text: &[u8], at: usize, sort: S) -> usize
+    requires inside { at ≤ length text.now }
+    requires callable { S.IsAlwaysCallable sort }
+    ensures { (p : ℕ → Bool) → ((b : ℕ) (r : Bool) → S.post sort b r → r ≡ p b) → Some result ≡ past at (takes p (drop at text.now)) }
+{
+    for i in at..text.len() {
+        if !sort(text[i]) {
+            return i;
+        }
+    }
+    text.len()
 }
 
 // The first place of a text where no blank stands.
 fn skip_blanks(text: &[u8]) -> usize
     ensures { Skips text.now result }
 {
-    let mut i = 0;
-    while i < text.len() {
-        if !blank(text[i]) {
-            return i;
-        }
-        i += 1;
-    }
-    i
-}
-
-// Where the word bytes from a place on end.
-fn word_end(text: &[u8], at: usize) -> usize
-    requires { at ≤ length text.now }
-    ensures { result ≡ past at (takes word_byte' (drop at text.now)) }
-{
-    let mut i = at;
-    while i < text.len() {
-        if !word_byte(text[i]) {
-            return i;
-        }
-        i += 1;
-    }
-    i
-}
-
-// Where the bytes of operators from a place on end.
-fn operator_end(text: &[u8], at: usize) -> usize
-    requires { at ≤ length text.now }
-    ensures { result ≡ past at (takes operator_byte' (drop at text.now)) }
-{
-    let mut i = at;
-    while i < text.len() {
-        if !operator_byte(text[i]) {
-            return i;
-        }
-        i += 1;
-    }
-    i
-}
-
-// Where the digits from a place on end.
-fn digits_end(text: &[u8], at: usize) -> usize
-    requires { at ≤ length text.now }
-    ensures { result ≡ past at (takes digit' (drop at text.now)) }
-{
-    let mut i = at;
-    while i < text.len() {
-        if !digit(text[i]) {
-            return i;
-        }
-        i += 1;
-    }
-    i
+    bytes_end(text, 0, blank)
 }
 
 // Where the number ends whose first digit stands at a place: behind its digits, or behind a dot and digits.
 fn number_end(text: &[u8], at: usize) -> usize
     requires { at < length text.now }
-    ensures { result ≡ past at (number' (get_or text.now at 0) (drop (at + 1) text.now)) }
+    ensures { Some result ≡ past at (number' (get_or text.now at 0) (drop (at + 1) text.now)) }
 {
-    let end = digits_end(text, at + 1);
-    if text.len() - end < 2 {
-        return end;
+    let end = bytes_end(text, at + 1, digit);
+    if end + 1 < text.len() && text[end] == DOT && digit(text[end + 1]) {
+        return bytes_end(text, end + 1, digit);
     }
-    if text[end] != DOT {
-        return end;
-    }
-    if !digit(text[end + 1]) {
-        return end;
-    }
-    digits_end(text, end + 1)
+    end
 }
 
 // Where a quotation ends from a place inside it on: behind the first like quote that is not doubled.
-fn closing_end(text: &[u8], at: usize, quote: u8) -> usize
+// (A turn goes on by a byte, or by the two of a doubled quote, so `i` is counted by hand.)
+fn closing_end(text: &[u8], at: usize, quote: u8) -> Option<usize>
     requires { at ≤ length text.now }
     ensures { result ≡ past at (closing quote (drop at text.now)) }
 {
@@ -229,30 +194,26 @@ fn closing_end(text: &[u8], at: usize, quote: u8) -> usize
     while i < text.len() {
         if text[i] != quote {
             i += 1;
-        } else if text.len() - i < 2 {
-            return i + 1;
-        } else if text[i + 1] != quote {
-            return i + 1;
-        } else {
+        } else if i + 1 < text.len() && text[i + 1] == quote {
             i += 2;
+        } else {
+            return Some(i + 1);
         }
     }
-    UNCLOSED
+    None
 }
 
 // Where a blob ends from a place inside its quotes on: behind the next quote.
-fn through_end(text: &[u8], at: usize) -> usize
+fn through_end(text: &[u8], at: usize) -> Option<usize>
     requires { at ≤ length text.now }
     ensures { result ≡ past at (through apostrophe (drop at text.now)) }
 {
-    let mut i = at;
-    while i < text.len() {
+    for i in at..text.len() {
         if text[i] == APOSTROPHE {
-            return i + 1;
+            return Some(i + 1);
         }
-        i += 1;
     }
-    UNCLOSED
+    None
 }
 
 // Whether a blob begins at a place: X or x, and a quote behind it.
@@ -260,27 +221,21 @@ fn opens_blob(text: &[u8], at: usize) -> bool
     requires { at < length text.now }
     ensures { result ≡ (among (get_or text.now at 0) exes && opened (drop (at + 1) text.now)) }
 {
-    if !blob_first(text[at]) {
-        return false;
-    }
-    if text.len() - at < 2 {
-        return false;
-    }
-    text[at + 1] == APOSTROPHE
+    matches!(&text[at..], [b'X' | b'x', APOSTROPHE, ..])
 }
 
 // A lexeme from a place to its end, or what cannot be read there.
-fn closed(kind: u32, start: usize, end: usize) -> Lexeme
+fn closed(kind: Kind, start: usize, end: Option<usize>) -> Lexeme
     ensures { result ≡ closed' kind start end }
 {
-    if end == UNCLOSED {
-        return Lexeme {
-            kind: STOP,
+    match end {
+        Some(end) => Lexeme { kind, start, end },
+        None => Lexeme {
+            kind: Kind::Stop,
             start,
             end: start,
-        };
+        },
     }
-    Lexeme { kind, start, end }
 }
 
 // The lexeme whose first byte stands at a place, or what cannot be read there.
@@ -291,26 +246,30 @@ fn lexeme_at(text: &[u8], at: usize) -> Lexeme
     let b = text[at];
     if word_first(b) {
         if opens_blob(text, at) {
-            return closed(BLOB, at, through_end(text, at + 2));
+            return closed(Kind::Blob, at, through_end(text, at + 2));
         }
-        return closed(WORD, at, word_end(text, at + 1));
+        return closed(Kind::Word, at, Some(bytes_end(text, at + 1, word_byte)));
     }
     if mark(b) {
-        return closed(MARK, at, at + 1);
+        return closed(Kind::Mark, at, Some(at + 1));
     }
     if digit(b) {
-        return closed(NUMBER, at, number_end(text, at));
+        return closed(Kind::Number, at, Some(number_end(text, at)));
     }
     if quote(b) {
-        return closed(QUOTED, at, closing_end(text, at + 1, b));
+        return closed(Kind::Quoted, at, closing_end(text, at + 1, b));
     }
     if operator_byte(b) {
-        return closed(OPERATOR, at, operator_end(text, at + 1));
+        return closed(
+            Kind::Operator,
+            at,
+            Some(bytes_end(text, at + 1, operator_byte)),
+        );
     }
     if variable(b) {
-        return closed(VARIABLE, at, word_end(text, at + 1));
+        return closed(Kind::Variable, at, Some(bytes_end(text, at + 1, word_byte)));
     }
-    closed(STOP, at, UNCLOSED)
+    closed(Kind::Stop, at, None)
 }
 
 // What stands next in a text.
@@ -320,7 +279,7 @@ fn next(text: &[u8]) -> Lexeme
     let at = skip_blanks(text);
     if at == text.len() {
         return Lexeme {
-            kind: END,
+            kind: Kind::End,
             start: at,
             end: at,
         };
@@ -329,8 +288,8 @@ fn next(text: &[u8]) -> Lexeme
 }
 
 // Reads one lexeme of a text: its kind and where it starts are stored, and the rest of the text is handed back.
-pub fn read<'a>(text: &'a [u8], kind: &mut u32, start: &mut usize) -> &'a [u8]
-    ensures { Gives text.now kind.new start.new result.now }
+pub fn read<'a>(text: &'a [u8], kind: &mut Kind, start: &mut usize) -> &'a [u8]
+    ensures { Gives text.now (number_of kind.new) start.new result.now }
 {
     let l = next(text);
     *kind = l.kind;

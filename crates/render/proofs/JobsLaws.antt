@@ -1,22 +1,19 @@
 -- Laws of the jobs: what one job comes to, how a walk over all of them goes on from job to job (`Begun`), and that no two outcomes satisfy the contract.
-use Rattle.std.specs.Prelude.{ℕ, ◌+◌, ◌≤◌, ◌≡◌, Bool, length, take, drop}
+use Rattle.std.specs.Prelude.{ℕ, ◌+◌, ◌≤◌, ◌≡◌, Bool, length, take, drop, Ok, Err}
 use Rattle.std.proofs.Common.{arith, ◌∙◌, ap, length-drop}
 use Rattle.std.proofs.Math.Path.{refl, sym}
 use mathlib.Core.List.{List, ◌∷◌, ◌++◌, Memᴰ}
 use Rattle.std.proofs.Math.Bool.{true, false}
 use Rattle.mode.specs.declared.Mode.{Mode}
-use Rattle.render.specs.declared.Outcome.{Outcome}
-use Rattle.render.specs.declared.Outcome.TheVariants.{Done, Refused, NoRoom}
 use Rattle.render.specs.declared.jobs.Job.{Job}
-use Rattle.render.specs.Render.{RendersIn, number_of, place_of}
+use Rattle.render.specs.Render.{Outcome, RendersIn, number_of, place_of}
 use Rattle.render.specs.Laws.{renders_unique, done_fits}
 use Rattle.render.specs.Jobs.{outside, tree_of, answered, written, Single, InOrder, none, one, RendersJobs}
 
 -- what is written fits the room
 pub written_fits : {m : Mode} {t x out out' : List ℕ} (o : Outcome) → RendersIn m t x out o out' → written o ≤ length out
-written_fits (Done n) r = done_fits r
-written_fits (Refused a) r = omega arith
-written_fits (NoRoom n) r = omega arith
+written_fits (Ok n) r = done_fits r
+written_fits (Err e) r = omega arith
 
 pub single_room : {m : Mode} {trees x : List ℕ} {j j' : Job} {out out' : List ℕ} {at next : ℕ} → Single m trees x j out at j' out' next → at ≤ length out → next ≤ length out
 single_room {m} {trees} {x} {j} {j'} {out} {out'} {at} {next} s h = by (outside trees j) refl

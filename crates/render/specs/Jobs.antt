@@ -1,9 +1,7 @@
 -- 02, i: many trees at once. "The result equals the single calls done in order on the room that is left."
-use Rattle.std.specs.Prelude.{ℕ, ◌+◌, ◌≡◌, List, [], ◌∷◌, ◌++◌, Bool, true, false, ltb, length, take, drop}
+use Rattle.std.specs.Prelude.{ℕ, ◌+◌, ◌≡◌, List, [], ◌∷◌, ◌++◌, Bool, true, false, ltb, length, take, drop, Ok, Err}
 use Rattle.mode.specs.declared.Mode.{Mode}
-use Rattle.render.specs.declared.Outcome.{Outcome}
-use Rattle.render.specs.declared.Outcome.TheVariants.{Done, Refused, NoRoom}
-use Rattle.render.specs.Render.{RendersIn, number_of, place_of}
+use Rattle.render.specs.Render.{Outcome, RendersIn, number_of, place_of}
 use Rattle.render.specs.declared.jobs.Job.{Job}
 
 -- "tree start and tree length in a shared tree buffer": a job is outside if the buffer ends before its tree does
@@ -19,9 +17,8 @@ answered j number place at = record { tree_start = j.tree_start; tree_len = j.tr
 
 -- "a refused job adds nothing"
 abbrev pub written : Outcome → ℕ
-written (Done n) = n
-written (Refused a) = 0
-written (NoRoom n) = 0
+written (Ok n) = n
+written (Err e) = 0
 
 -- the single call for a tree t, with the room from `at` on: what the job, the output and the start of the next text are after it
 pub record Called (m : Mode) (t x : List ℕ) (j : Job) (out : List ℕ) (at : ℕ) (j' : Job) (out' : List ℕ) (next : ℕ) : Type 0 where

@@ -9,9 +9,8 @@ use Rattle.std.proofs.Math.Dec.{ltb}
 use borrow.Author.Tests.{lt-ltb, le-ltb, ltb-true, ltb-false}
 use borrow.Rule.Slice.PartMut.{mid_of, put_mid}
 use Rattle.mode.specs.declared.Mode.{Mode}
-use Rattle.render.specs.declared.Outcome.{Outcome}
 use Rattle.render.specs.declared.jobs.Job.{Job}
-use Rattle.render.specs.Render.{RendersIn, number_of, place_of}
+use Rattle.render.specs.Render.{Outcome, RendersIn, number_of, place_of}
 use Rattle.render.specs.Jobs.{outside, tree_of, answered, written, Called, Single, InOrder, none, one, RendersJobs}
 
 -- ---- a job outside the tree buffer, tested with no sum

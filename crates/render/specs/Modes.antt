@@ -1,28 +1,20 @@
 -- 02, vii: "Switch off, demand 2 reads as before; on, it holds for what is accepted." Off, in the crate's edition, is 01's definition itself (`Render.Measures`,
 -- `Renders`). What is accepted in a mode is accepted with the switch off, with the same length and the same bytes; so a tree that both admit has one text.
-use Rattle.std.specs.Prelude.{ℕ, ◌≡◌, refl, List, Bool, true, false, cond, eqb}
-use Rattle.std.proofs.Common.{arith, eqb-true}
-use Rattle.std.proofs.lemmas.Bool.{not-false}
+use Rattle.std.specs.Prelude.{ℕ, ◌≡◌, refl, List, Ok, Err}
 use Rattle.mode.specs.declared.Mode.{Mode}
 use Rattle.tree.specs.Check as tree
-use Rattle.tree.specs.declared.Answer.{Answer}
+use Rattle.tree.specs.Check.{Answer}
 use Rattle.rules.specs.Whole.{switched_off, off_looser, looser}
-use Rattle.render.specs.declared.Outcome.{Outcome}
-use Rattle.render.specs.declared.Outcome.TheVariants.{Done, Refused}
-use Rattle.render.specs.Render.{refuses, measured, rendered, MeasuresIn, RendersIn}
+use Rattle.render.specs.Render.{Outcome, or_refused, measured, rendered, MeasuresIn, RendersIn}
 
 -- where a length is answered, the check passed
-admits : (a : Answer) (other : Outcome) {n : ℕ} → Done n ≡ cond (refuses a) (Refused a) other → tree.number_of a ≡ 0
-unfolding refuses
-admits a other {n} e = eqb-true (tree.number_of a) 0 (not-false (eqb (tree.number_of a) 0) (by (refuses a) e))
-  where
-    by : (b : Bool) → Done n ≡ cond b (Refused a) other → b ≡ false
-    by true q = let z : ◌≡◌ {A = ℕ} 0 1 = cc in absurd (omega arith)
-    by false q = refl
+admits : (a : Answer) (other : Outcome) {n : ℕ} → Ok n ≡ or_refused a other → tree.number_of a ≡ 0
+admits (Ok u) other e = refl
+admits (Err r) other e = absurd (cc)
 
 -- ---- the switch
 module _ (mode : Mode) {t x : List ℕ} {n : ℕ} where
-  pub measured_off : MeasuresIn mode t x (Done n) → MeasuresIn (switched_off mode) t x (Done n)
+  pub measured_off : MeasuresIn mode t x (Ok n) → MeasuresIn (switched_off mode) t x (Ok n)
   unfolding measured
   measured_off m =
       record {
@@ -31,7 +23,7 @@ module _ (mode : Mode) {t x : List ℕ} {n : ℕ} where
         answers = m.answers;
       }
 
-  pub rendered_off : {out out' : List ℕ} → RendersIn mode t x out (Done n) out' → RendersIn (switched_off mode) t x out (Done n) out'
+  pub rendered_off : {out out' : List ℕ} → RendersIn mode t x out (Ok n) out' → RendersIn (switched_off mode) t x out (Ok n) out'
   unfolding rendered
   rendered_off r =
       record {

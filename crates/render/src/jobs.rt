@@ -12,6 +12,7 @@ ghost use Rattle.render.specs.Jobs.{answered as answered', written, outside as o
 
 use super::{Outcome, number, place, render_checked, write};
 use mode::Mode;
+use pen::Input;
 use tree::Answer;
 use utf8::Encoding;
 
@@ -34,46 +35,24 @@ pub struct Job {
     pub out_start: u64,
 }
 
-// A job that is done, and where the next text begins.
-#[derive(Clone, Copy)]
-struct Step {
-    job: Job,
-    next: usize,
-}
-
 // A job with what is answered.
 fn answered(job: Job, refusal: u64, place: usize, at: usize) -> Job
     ensures { result ≡ answered' job refusal place at }
 {
     Job {
-        tree_start: job.tree_start,
-        tree_len: job.tree_len,
         refusal,
         place: place as u64,
         out_start: at as u64,
+        ..job
     }
 }
 
-// A job that the single call answers so, and where the next text begins.
-fn stepped(job: Job, outcome: Outcome, at: usize) -> Step
+// Where the next text begins behind one that begins here.
+fn behind(outcome: Outcome, at: usize) -> usize
     requires { at + written outcome < 2 ^ 64 }
-    ensures { (result.job ≡ answered' job (number_of outcome) (place_of outcome) at) × (result.next ≡ at + written outcome) }
+    ensures { result ≡ at + written outcome }
 {
-    let done = answered(job, number(outcome), place(outcome), at);
-    match outcome {
-        Outcome::Done(n) => Step {
-            job: done,
-            next: at + n,
-        },
-        Outcome::Refused(_) => Step {
-            job: done,
-            next: at,
-        },
-        Outcome::NoRoom(_) => Step {
-            job: done,
-            next: at,
-        },
-    }
+    at + outcome.unwrap_or(0)
 }
 
 // Whether the tree buffer ends before a job's tree does.
@@ -94,10 +73,8 @@ fn ample(tree: &[u8]) -> u64
 {
     let count = record::count(tree);
     let mut lengths: u64 = 0;
-    let mut i = 0;
-    while i < count {
+    for i in 0..count {
         lengths += record::read(tree, i).len as u64;
-        i += 1;
     }
     count as u64 * EACH_TAKES + 2 * lengths
 }
@@ -114,42 +91,46 @@ fn render_ample(
     requires { (pool.now ≡ bytes) × ChecksIn mode tree.now text.now answer }
     ensures { RendersIn mode tree.now text.now out.old result out.new }
 {
-    if tree::number(answer) == 0 {
-        if ample(tree) <= out.len() as u64 {
-            let edition = mode.edition;
-            return Outcome::Done(write(out, pool, tree, text, edition));
-        }
+    answer?;
+    if ample(tree) <= out.len() as u64 {
+        let from = Input {
+            pool,
+            tree,
+            text,
+            edition: mode.edition,
+        };
+        return Ok(write(out, &from));
     }
     render_checked(answer, out, pool, tree, text, mode)
 }
 
-// One job, from where the next text begins, with the pool of spellings lent and the text's encoding told.
-fn one(
-    job: Job,
-    trees: &[u8],
-    text: &[u8],
-    out: &mut [u8],
-    pool: &[u8],
-    told: Encoding,
+// What stays the same from job to job: the pool of spellings, and that the text's encoding is told, among it.
+#[derive(Clone, Copy)]
+struct Batch<'a> {
     options: u32,
-    at: usize,
-) -> Step
-    requires { (pool.now ≡ bytes) × (Encoded text.now told × (at ≤ length out.old)) }
-    ensures { Single (mode_of options) trees.now text.now job out.old at result.job out.new result.next }
+    trees: &'a [u8],
+    text: &'a [u8],
+    told: Encoding,
+    pool: &'a [u8],
+}
+
+// One job, from where the next text begins: the answer is where the one behind it does.
+fn one(job: &mut Job, of: &Batch, out: &mut [u8], at: usize) -> usize
+    requires { (of.now.pool.now ≡ bytes) × (Encoded of.now.text.now of.now.told × (at ≤ length out.old)) }
+    ensures { Single (mode_of of.now.options) of.now.trees.now of.now.text.now job.old out.old at job.new out.new result }
 {
-    if outside(job, trees) {
-        return Step {
-            job: answered(job, OUTSIDE, 0, at),
-            next: at,
-        };
+    if outside(*job, of.trees) {
+        *job = answered(*job, OUTSIDE, 0, at);
+        return at;
     }
     let start = job.tree_start as usize;
     let end = start + job.tree_len as usize;
-    let tree = &trees[start..end];
-    let mode = mode::of(options);
-    let answer = rules::check_told(tree, text, told, mode);
-    let outcome = render_ample(answer, &mut out[at..], pool, tree, text, mode);
-    stepped(job, outcome, at)
+    let tree = &of.trees[start..end];
+    let mode = mode::of(of.options);
+    let answer = rules::check_told(tree, of.text, of.told, mode);
+    let outcome = render_ample(answer, &mut out[at..], of.pool, tree, of.text, mode);
+    *job = answered(*job, number(outcome), place(outcome), at);
+    behind(outcome, at)
 }
 
 // Every job in order: the answer is the bytes written in all.
@@ -163,16 +144,16 @@ pub fn render_jobs(
     ensures { RendersJobs (mode_of options) trees.now text.now jobs.old out.old jobs.new out.new result }
 {
     let pool = spelling::pool();
-    let told = utf8::check(text);
-    let n = jobs.len();
+    let of = Batch {
+        options,
+        trees,
+        text,
+        told: utf8::check(text),
+        pool: &pool,
+    };
     let mut at = 0;
-    let mut i = 0;
-    while i < n {
-        let job = &mut jobs[i];
-        let step = one(*job, trees, text, out, &pool, told, options, at);
-        *job = step.job;
-        at = step.next;
-        i += 1;
+    for job in jobs.iter_mut() {
+        at = one(job, &of, out, at);
     }
     at
 }

@@ -8,9 +8,11 @@ ghost use Rattle.std.proofs.lemmas.List.Edits.{sets};
 ghost use Rattle.spelling.specs.Table.{bytes};
 ghost use Rattle.render.specs.Render.{text_in, MeasuresIn, RendersIn, number_of, place_of};
 ghost use Rattle.tree.specs.Check.{ChecksIn};
+ghost use Rattle.render.specs.declared.Refusal.TheVariants.{Tree};
 ghost use Rattle.render.specs.Steps.{Writes, Drafted};
 
-use mode::{Edition, Mode};
+use mode::Mode;
+use pen::Input;
 use stream::Sink;
 use tree::Answer;
 
@@ -23,24 +25,34 @@ const NO_ROOM: u64 = 8;
 // The bytes of a draft: few texts of a schema are longer.
 const DRAFT: usize = 1024;
 
-#[derive(Clone, Copy)]
-pub enum Outcome {
-    // Measured or written: so many bytes.
-    Done(usize),
+// Why the text of a tree is not measured or written.
+#[derive(Clone, Copy, PartialEq, Eq)]
+pub enum Refusal {
     // The check refuses.
-    Refused(Answer),
+    Tree(tree::Refusal),
     // The output is shorter than the so many bytes needed.
     NoRoom(usize),
 }
+
+impl From<tree::Refusal> for Refusal {
+    ghost from_gives = { λ r o. o ≡ Tree r };
+
+    fn from(r: tree::Refusal) -> Refusal {
+        Refusal::Tree(r)
+    }
+}
+
+// What a call comes to: so many bytes are measured or written, or a refusal.
+pub type Outcome = Result<usize, Refusal>;
 
 // An outcome's number in 01's table.
 pub fn number(o: Outcome) -> u64
     ensures { result ≡ number_of o }
 {
     match o {
-        Outcome::Done(_) => 0,
-        Outcome::Refused(a) => tree::number(a),
-        Outcome::NoRoom(_) => NO_ROOM,
+        Ok(_) => 0,
+        Err(Refusal::Tree(r)) => tree::number(Err(r)),
+        Err(Refusal::NoRoom(_)) => NO_ROOM,
     }
 }
 
@@ -49,22 +61,22 @@ pub fn place(o: Outcome) -> usize
     ensures { result ≡ place_of o }
 {
     match o {
-        Outcome::Done(n) => n,
-        Outcome::Refused(a) => tree::place(a),
-        Outcome::NoRoom(n) => n,
+        Ok(n) => n,
+        Err(Refusal::Tree(r)) => tree::place(Err(r)),
+        Err(Refusal::NoRoom(n)) => n,
     }
 }
 
 // The text of a tree, from the output's first byte on, as much of it as there is room for; and how long it is.
-fn write(out: &mut [u8], pool: &[u8], tree: &[u8], text: &[u8], edition: Edition) -> usize
-    requires { pool.now ≡ bytes }
-    ensures { Writes edition tree.now text.now out.old result out.new }
+fn write(out: &mut [u8], from: &Input) -> usize
+    requires { from.now.pool.now ≡ bytes }
+    ensures { Writes from.now.edition from.now.tree.now from.now.text.now out.old result out.new }
 {
     let s = Sink {
         spaced: true,
         at: 0,
     };
-    let end = cmd::to_tokens(s, out, pool, tree, text, edition);
+    let end = cmd::to_tokens(s, out, from);
     end.at
 }
 
@@ -72,33 +84,27 @@ fn write(out: &mut [u8], pool: &[u8], tree: &[u8], text: &[u8], edition: Edition
 pub fn measure(mode: Mode, tree: &[u8], text: &[u8]) -> Outcome
     ensures { MeasuresIn mode tree.now text.now result }
 {
-    let checked = rules::check(tree, text, mode);
-    if tree::number(checked) != 0 {
-        return Outcome::Refused(checked);
-    }
+    rules::check(tree, text, mode)?;
     let pool = spelling::pool();
+    let from = Input {
+        pool: &pool,
+        tree,
+        text,
+        edition: mode.edition,
+    };
     let mut nothing = [0u8; 0];
-    let edition = mode.edition;
-    Outcome::Done(write(&mut nothing, &pool, tree, text, edition))
+    Ok(write(&mut nothing, &from))
 }
 
 // The text of a tree, which has so many bytes, in the output: copied from its draft, if that has room for all of it.
-fn fair_copy(
-    out: &mut [u8],
-    draft: &[u8],
-    pool: &[u8],
-    tree: &[u8],
-    text: &[u8],
-    edition: Edition,
-    length: usize,
-)
-    requires { (pool.now ≡ bytes) × ((length ≡ length' (text_in edition tree.now text.now)) × ((length ≤ length' out.old) × Drafted edition tree.now text.now draft.now)) }
-    ensures { out.new ≡ sets out.old 0 (text_in edition tree.now text.now) }
+fn fair_copy(out: &mut [u8], draft: &[u8], from: &Input, length: usize)
+    requires { (from.now.pool.now ≡ bytes) × ((length ≡ length' (text_in from.now.edition from.now.tree.now from.now.text.now)) × ((length ≤ length' out.old) × Drafted from.now.edition from.now.tree.now from.now.text.now draft.now)) }
+    ensures { out.new ≡ sets out.old 0 (text_in from.now.edition from.now.tree.now from.now.text.now) }
 {
     if length <= draft.len() {
         out[..length].copy_from_slice(&draft[..length]);
     } else {
-        write(out, pool, tree, text, edition);
+        write(out, from);
     }
 }
 
@@ -115,17 +121,20 @@ fn render_checked(
     requires { (pool.now ≡ bytes) × ChecksIn mode tree.now text.now answer }
     ensures { RendersIn mode tree.now text.now out.old result out.new }
 {
-    if tree::number(answer) != 0 {
-        return Outcome::Refused(answer);
-    }
-    let edition = mode.edition;
+    answer?;
+    let from = Input {
+        pool,
+        tree,
+        text,
+        edition: mode.edition,
+    };
     let mut draft = [0u8; DRAFT];
-    let length = write(&mut draft, pool, tree, text, edition);
+    let length = write(&mut draft, &from);
     if out.len() < length {
-        return Outcome::NoRoom(length);
+        return Err(Refusal::NoRoom(length));
     }
-    fair_copy(out, &draft, pool, tree, text, edition, length);
-    Outcome::Done(length)
+    fair_copy(out, &draft, &from, length);
+    Ok(length)
 }
 
 // The text of a tree written to the output, or a refusal, which writes nothing.

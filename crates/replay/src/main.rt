@@ -5,42 +5,24 @@
 // two bytes, little-endian, and the value's bytes.
 #![tactic(auto)]
 
-ghost use Rattle.std.specs.Prelude.{◌≡◌, ◌≤◌, length};
+ghost use Rattle.std.specs.Prelude.{◌≡◌, ◌≤◌, length, IfSome};
 ghost use Rattle.replay.specs.Case.{room, Within};
 
-use append::{Answer, Stream};
-
-// The descriptors of standard input and output.
-const STDIN_FILENO: i32 = 0;
-
-const STDOUT_FILENO: i32 = 1;
+use append::{Refusal, Stream};
 
 // The bytes before a token's value.
 const HEAD: usize = 4;
 // The bytes that a case may write, and more than a value may have.
 const TEXT: usize = 65536;
 
-// How a case stands.
-#[derive(Clone, Copy)]
-enum Case {
-    // Each token so far was appended, and left this record.
-    Written(Stream),
-    // A token was refused, with this number and place.
-    Refused(u64, u64),
-    // The input ended in the middle of the case.
-    CutOff,
-}
-
-// The number that two bytes hold, the low one first.
-fn word(low: u8, high: u8) -> u16 {
-    low as u16 + 256 * (high as u16)
-}
+// How a case stands: each token so far was appended, and left this record, or one was refused.
+type Case = Result<Stream, Refusal>;
 
 // A case with no token so far.
 fn fresh() -> Case
     ensures { Within result }
 {
-    Case::Written(Stream {
+    Ok(Stream {
         spaced: true,
         count: 0,
         line: 0,
@@ -53,111 +35,87 @@ fn append_token(rec: Stream, text: &mut [u8; TEXT], token: u16, value: &[u8]) ->
     ensures { Within result }
 {
     let next = append::lent(rec, text, token, value);
-    let answer = next.answer;
     let left = next.rec;
-    match answer {
-        Answer::Added(_) => Case::Written(left),
-        _ => Case::Refused(append::number(answer), append::place(answer)),
+    match next.answer {
+        Ok(_) => Ok(left),
+        Err(refusal) => Err(refusal),
     }
 }
 
-// Reads a token's value into all of value, and appends the token to a case: none behind one that was refused.
-fn replay_value(case: Case, text: &mut [u8; TEXT], token: u16, value: &mut [u8]) -> Case
+// Reads a token's value into all of value, and appends the token to a case: none behind one that was refused. Nothing where the input ends first.
+fn replay_value(case: Case, text: &mut [u8; TEXT], token: u16, value: &mut [u8]) -> Option<Case>
     requires { Within case }
-    ensures { Within result }
+    ensures { IfSome result Within }
 {
-    let len = value.len();
-    if io::read_full(STDIN_FILENO, value) < len {
-        return Case::CutOff;
+    if !lines::fill(value) {
+        return None;
     }
-    let Case::Written(rec) = case else {
-        return case;
-    };
-    append_token(rec, text, token, value)
+    match case {
+        Ok(rec) => Some(append_token(rec, text, token, value)),
+        Err(_) => Some(case),
+    }
 }
 
-// Reads a token and appends it to a case.
-fn replay_token(case: Case, text: &mut [u8; TEXT]) -> Case
+// Reads a token and appends it to a case. Nothing where the input ends first.
+fn replay_token(case: Case, text: &mut [u8; TEXT]) -> Option<Case>
     requires { Within case }
-    ensures { Within result }
+    ensures { IfSome result Within }
 {
     let mut head = [0u8; HEAD];
-    if io::read_full(STDIN_FILENO, &mut head) < HEAD {
-        return Case::CutOff;
+    if !lines::fill(&mut head) {
+        return None;
     }
-    let token = word(head[0], head[1]);
-    let len = word(head[2], head[3]) as usize;
+    let token = u16::from_le_bytes([head[0], head[1]]);
+    let len = u16::from_le_bytes([head[2], head[3]]) as usize;
     let mut value = io::large_buffer();
     replay_value(case, text, token, &mut value[..len])
 }
 
-// Replays a case of so many tokens.
-fn replay_tokens(tokens: u8, text: &mut [u8; TEXT]) -> Case
-    ensures { Within result }
+// Replays a case of so many tokens. Nothing where the input ends in the midst of them.
+fn replay_tokens(tokens: u8, text: &mut [u8; TEXT]) -> Option<Case>
+    ensures { IfSome result Within }
 {
     let mut case = fresh();
     for _ in 0..tokens {
-        case = replay_token(case, text);
+        case = replay_token(case, text)?;
     }
-    case
+    Some(case)
 }
 
-// Prints the line of a case that was written, whose bytes are at the start of text.
-fn print_written(rec: Stream, text: &[u8])
+// Prints the line of a case that was written, whose bytes are at the start of text, and answers whether it was written.
+fn print_written(rec: Stream, text: &[u8]) -> bool
     requires count_le_room { rec.count ≤ room }
     requires text_len { length text.now ≡ room }
 {
     let count = rec.count;
-    lines::print_bytes(&text[..count]);
-    if rec.spaced {
-        io::write_all(STDOUT_FILENO, b" 1 ");
-    } else {
-        io::write_all(STDOUT_FILENO, b" 0 ");
-    }
-    lines::print_numbers(rec.line as u64, rec.column as u64, b'\n');
+    let bit = if rec.spaced { 1 } else { 0 };
+    lines::print_bytes(&text[..count])
+        && lines::print(b" ")
+        && lines::print_number(bit, b' ')
+        && lines::print_numbers(rec.line as u64, rec.column as u64, b'\n')
 }
 
-// Prints the line of a case with a token that was refused: the refusal's number and place.
-fn print_refused(number: u64, place: u64) {
-    io::write_all(STDOUT_FILENO, b"refused ");
-    lines::print_numbers(number, place, b'\n');
-}
-
-// Prints the line of a case, and answers whether another may follow.
-fn print_case(case: Case, text: &[u8; TEXT]) -> bool
-    requires { Within case }
-{
-    match case {
-        Case::Written(rec) => {
-            print_written(rec, text);
-            true
-        }
-        Case::Refused(number, place) => {
-            print_refused(number, place);
-            true
-        }
-        Case::CutOff => {
-            io::write_all(STDOUT_FILENO, b"cut off\n");
-            false
-        }
-    }
+// Prints the line of a case with a token that was refused, its number and its place, and answers whether it was written.
+fn print_refused(refusal: Refusal) -> bool {
+    let answer = Err(refusal);
+    lines::print(b"refused ")
+        && lines::print_numbers(append::number(answer), append::place(answer), b'\n')
 }
 
 // Replays a case and prints its line, and answers whether to go on: not at the end of the input.
 fn replay_case() -> bool {
     let mut tokens = [0u8; 1];
-    if io::read_full(STDIN_FILENO, &mut tokens) == 0 {
+    if !lines::fill(&mut tokens) {
         return false;
     }
     let mut text = [0u8; TEXT];
-    let case = replay_tokens(tokens[0], &mut text);
-    print_case(case, &text)
+    match replay_tokens(tokens[0], &mut text) {
+        Some(Ok(rec)) => print_written(rec, &text),
+        Some(Err(refusal)) => print_refused(refusal),
+        None => lines::stop(b"cut off\n"),
+    }
 }
 
-// Replays case after case. The turns are counted down, from a number that no input uses up: nothing says that it ends.
 fn main() {
-    let mut turns = u64::MAX;
-    while turns > 0 && replay_case() {
-        turns -= 1;
-    }
+    lines::replay(replay_case);
 }

@@ -1,4 +1,4 @@
--- 02, viii: "a without_rowid_lem text accepted only if its two parts are WITHOUT and ROWID, each letter in either case." The parts are those of 01, section 4.
+-- 02, viii: "a without-rowid text accepted only if its two parts are WITHOUT and ROWID, each letter in either case." The parts are those of 01, section 4.
 use Rattle.std.specs.Prelude.{ℕ, ◌-◌, List, [], ◌∷◌, map, Bool, false, cond, ◌&&◌, leb, take, drop}
 use Prim.Native.String.{String}
 use Rattle.laws.specs.Bytes.{same}

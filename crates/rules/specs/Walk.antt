@@ -1,14 +1,8 @@
 -- The walk over sound records. `Reached` says that 01's scan finds the records from an index up to an end sound; so each of them fits its place, and
 -- the walk may go by its children. `Goes` says what the walk has come to so far: what is left to be looked at leads to the same first broken rule.
-use Prim.Native.Nat.{ℕ, zero, suc, ◌+◌, ◌-◌, ◌/◌, ◌%◌, ◌≤◌, ◌<◌}
-use native.Mathlib.Omega.{arith}
-use Rattle.std.specs.Prelude.{◌≡◌, Bool, not, cond, ◌&&◌, ltb, length, replicate}
-use Rattle.std.proofs.Math.Path.{refl}
-use Rattle.std.proofs.Common.{◌∙◌}
-use mathlib.Core.List.{List, [], ◌∷◌, ◌++◌, map}
-use Rattle.std.proofs.Math.Bool.{true, false}
-use Rattle.std.proofs.Math.Dec.{eqb}
-use borrow.Author.Tests.{eqb-true, eqb-false, eq-eqb, ne_eqb, ltb-true, ltb-false, not-false}
+use Rattle.std.specs.Prelude.{ℕ, zero, suc, ◌+◌, ◌-◌, ◌≤◌, ◌<◌, ◌%◌, ◌≡◌, refl, List, [], ◌∷◌, ◌++◌, map, Bool, true, false, not, ◌&&◌, eqb, ltb, length, Option, Some, None, Result, Ok, Err, IfOk}
+use Rattle.std.proofs.Common.{arith, ◌∙◌}
+use borrow.Author.Tests.{ltb-true, ltb-false, not-false}
 use Rattle.laws.specs.Below.{below}
 use Rattle.laws.specs.Bytes.{same}
 use Rattle.laws.specs.First.{first}
@@ -21,56 +15,58 @@ use Rattle.grammar.specs.Grammar.{shape}
 use Rattle.grammar.specs.Slots.{slots_of}
 use Rattle.grammar.specs.Classes.{classes_held, class_at}
 use Rattle.grammar.specs.Packed.{kinds_held, turn, along, all_held}
-use Rattle.tree.specs.Check.{Place, place, holds, fits, inside, deepest, faults_in, scan_in, scan}
+use Rattle.tree.specs.Check.{Answer, Place, place, holds, fits, inside, deepest, faults_in, scan_in, scan}
 use Rattle.tree.proofs.Steps.{held_split}
-use Rattle.tree.specs.declared.Answer.{Answer}
-use Rattle.tree.specs.declared.Answer.TheVariants.{Mark, Misfit, Outside, Deep}
-use Rattle.rules.specs.Rules.{rule_at, rules_of, rule_fault, sound_to, stopped, behind, broken}
-use Rattle.rules.specs.declared.Found.{Found}
+use Rattle.tree.specs.declared.Refusal.{Refusal}
+use Rattle.tree.specs.declared.Refusal.TheVariants.{Mark, Misfit, Outside, Deep}
+use Rattle.rules.specs.declared.Rule.{Rule}
+use Rattle.rules.specs.declared.Rule.TheVariants.{Source, Rowid}
+use Rattle.rules.specs.Rules.{rule_at, rule_of, rule_fault, sound_to, ruled, broken}
 
 -- 01's scan of the records from i on, in these places, finds those before end sound
 abbrev pub Reached : List ℕ → List ℕ → ℕ → ℕ → List Place → Type 0
 Reached t x end i ps = i < end → sound_to t (scan t x (count t - i) i ps) ≡ end
 
 -- what is broken behind a walk that came to w, where these places are left
-unfoldable pub resumed : Mode → List ℕ → List ℕ → ℕ → Found → List Place → Found
-resumed m t x end w ps = cond (eqb w.fault 0) (broken m t x (end - w.at) w.at ps) w
+unfoldable pub resumed : Mode → List ℕ → List ℕ → ℕ → Result ℕ Refusal → List Place → Answer
+resumed m t x end (Ok j) ps = broken m t x (end - j) j ps
+resumed m t x end (Err e) ps = Err e
 
 -- the walk from index i with the places ps came to w with qs left, whatever places follow
-pub record Goes (m : Mode) (t x : List ℕ) (end i : ℕ) (ps : List Place) (w : Found) (qs : List Place) : Type 0 where
+pub record Goes (m : Mode) (t x : List ℕ) (end i : ℕ) (ps : List Place) (w : Result ℕ Refusal) (qs : List Place) : Type 0 where
   pub is : (rest : List Place) → Reached t x end i (ps ++ rest) → broken m t x (end - i) i (ps ++ rest) ≡ resumed m t x end w (qs ++ rest)
-  pub on : (rest : List Place) → Reached t x end i (ps ++ rest) → w.fault ≡ 0 → Reached t x end w.at (qs ++ rest)
+  pub on : (rest : List Place) → Reached t x end i (ps ++ rest) → IfOk w (λ j. Reached t x end j (qs ++ rest))
 
--- ---- a row of places, as the grammar numbers them, with the rules for them in a number
-abbrev pub bytes_of : ℕ → ℕ → List ℕ
-bytes_of u zero = []
-bytes_of u (suc n) = u % 256 ∷ bytes_of (u / 256) n
+-- ---- a row of places, as the grammar numbers them, with the rules for them: those of n children of a kind, from one on
+abbrev pub rules_from : ℕ → ℕ → ℕ → List (Option Rule)
+rules_from k i zero = []
+rules_from k i (suc n) = rule_of k i ∷ rules_from k (i + 1) n
 
-pub record Rules (row u n : ℕ) : Type 0 where
+pub record Rules (row k i n : ℕ) : Type 0 where
   pub held : all_held row n ≡ true
-  pub rules : map rule_at (along row n) ≡ bytes_of u n
+  pub rules : map rule_at (along row n) ≡ rules_from k i n
 
--- n records from an index on stand in a row of places with these rules, and are sound up to an end
-pub record Led (t x : List ℕ) (end i left u n : ℕ) : Type 0 where
+-- n records from an index on stand in a row of places with the rules for a kind's children, and are sound up to an end
+pub record Led (t x : List ℕ) (end i left k n : ℕ) : Type 0 where
   pub row : ℕ
-  pub rules : Rules row u n
+  pub rules : Rules row k 0 n
   pub rest : List Place
   pub reached : Reached t x end i (map (place (65 - left)) (along row n) ++ rest)
 
 -- w is what a walk over them comes to, whatever row it is
-abbrev pub Finds : Mode → List ℕ → List ℕ → ℕ → ℕ → ℕ → ℕ → ℕ → Found → Type 0
-Finds m t x end i left u n w = (row : ℕ) → Rules row u n → Goes m t x end i (map (place (65 - left)) (along row n)) w []
+abbrev pub Finds : Mode → List ℕ → List ℕ → ℕ → ℕ → ℕ → ℕ → ℕ → Result ℕ Refusal → Type 0
+Finds m t x end i left k n w = (row : ℕ) → Rules row k 0 n → Goes m t x end i (map (place (65 - left)) (along row n)) w []
 
--- the same on the way: some row is left, with these rules
-pub record Going (m : Mode) (t x : List ℕ) (end i : ℕ) (ps : List Place) (left next u n : ℕ) : Type 0 where
+-- the same on the way: some row is left, with the rules from a child on
+pub record Going (m : Mode) (t x : List ℕ) (end i : ℕ) (ps : List Place) (left next k child n : ℕ) : Type 0 where
   pub row : ℕ
-  pub rules : Rules row u n
-  pub goes : Goes m t x end i ps (behind next) (map (place (65 - left)) (along row n))
+  pub rules : Rules row k child n
+  pub goes : Goes m t x end i ps (Ok next) (map (place (65 - left)) (along row n))
 
 -- ---- one record
 -- a record before the end: no test refuses it, and what is behind it is sound up to the end
 sound : (t : List ℕ) (end : ℕ) (k f o d : Bool) (i : ℕ) (a : Answer) → i < end
-    → sound_to t (first ((k, Mark i) ∷ (f, Misfit i) ∷ (o, Outside i) ∷ (d, Deep i) ∷ []) a) ≡ end
+    → sound_to t (first ((k, Err (Mark i)) ∷ (f, Err (Misfit i)) ∷ (o, Err (Outside i)) ∷ (d, Err (Deep i)) ∷ []) a) ≡ end
     → (f ≡ false) × ((o ≡ false) × (i + 1 < end → (d ≡ false) × (sound_to t a ≡ end)))
 sound t end true f o d i a h e = absurd (omega arith)
 sound t end false true o d i a h e = absurd (omega arith)
@@ -112,88 +108,84 @@ module _ (t x : List ℕ) (end i d : ℕ) (c : Class) (ps : List Place) (h : i <
 
 -- ---- the ways of a walk
 module _ (m : Mode) (t x : List ℕ) (end : ℕ) where
-  pub start : (i : ℕ) (ps : List Place) → Goes m t x end i ps (behind i) ps
+  pub start : (i : ℕ) (ps : List Place) → Goes m t x end i ps (Ok i) ps
   unfolding resumed
-  start i ps = record { is = λ rest h. refl; on = λ rest h z. h }
+  start i ps = record { is = λ rest h. refl; on = λ rest h. h }
 
-  -- a walk that stopped, or is at the end, looks at no more places
-  pub ends : {i : ℕ} {ps : List Place} {w : Found} {qs : List Place} → (w.fault ≡ 0 → end ≤ w.at) → Goes m t x end i ps w qs → Goes m t x end i ps w []
+  -- a walk that is at the end, or stopped, looks at no more places
+  pub ends : {i : ℕ} {ps : List Place} {j : ℕ} {qs : List Place} → end ≤ j → Goes m t x end i ps (Ok j) qs → Goes m t x end i ps (Ok j) []
   unfolding resumed broken
-  ends {i} {ps} {w} {qs} over g = by (eqb w.fault 0) refl
-    where
-      by : (b : Bool) → eqb w.fault 0 ≡ b → Goes m t x end i ps w []
-      by true q =
-          let z = eqb-true w.fault 0 q in
-          let o = over z in
-          let e : end - w.at ≡ 0 = omega arith in
-          record { is = λ rest h. rw (q, e) (rw (q, e) at (g.is rest h)); on = λ rest h y l. absurd (omega arith) }
-      by false q = record { is = λ rest h. rw q (rw q at (g.is rest h)); on = λ rest h y. absurd (eqb-false w.fault 0 q y) }
+  ends {i} {ps} {j} {qs} over g =
+      let e : end - j ≡ 0 = omega arith in
+      record { is = λ rest h. rw e (rw e at (g.is rest h)); on = λ rest h l. absurd (omega arith) }
 
-  module _ {i : ℕ} {ps : List Place} {j d : ℕ} {c : Class} {qs : List Place} (h : j < end) (g : Goes m t x end i ps (behind j) (place d c ∷ qs)) (f : ℕ)
-      (fe : f ≡ rule_fault m x (rule_at c) (record_at t j)) where
+  pub stopped : {i : ℕ} {ps : List Place} {e : Refusal} {qs : List Place} → Goes m t x end i ps (Err e) qs → Goes m t x end i ps (Err e) []
+  unfolding resumed
+  stopped g = record { is = g.is; on = λ rest h. tt }
+
+  module _ {i : ℕ} {ps : List Place} {j d : ℕ} {c : Class} {qs : List Place} (h : j < end) (g : Goes m t x end i ps (Ok j) (place d c ∷ qs)) (f : Answer)
+      (fe : f ≡ rule_fault m x (rule_at c) (record_at t j) j) where
     arrives : (rest : List Place) → Reached t x end i (ps ++ rest) → Reached t x end j (place d c ∷ (qs ++ rest))
-    arrives rest reached = g.on rest reached refl
+    arrives rest reached = g.on rest reached
 
     fits_here : (rest : List Place) → Reached t x end i (ps ++ rest) → fits c (record_at t j) ≡ true
     fits_here rest reached = here_fits t x end j d c (qs ++ rest) h (arrives rest reached)
 
     one_step : (rest : List Place)
         → broken m t x (end - j) j (place d c ∷ (qs ++ rest))
-        ≡ cond (eqb f 0) (broken m t x (end - (j + 1)) (j + 1) (map (place (d + 1)) (holds c (record_at t j)) ++ (qs ++ rest))) (stopped f j)
+        ≡ ruled (broken m t x (end - (j + 1)) (j + 1) (map (place (d + 1)) (holds c (record_at t j)) ++ (qs ++ rest))) f
     unfolding broken
     one_step rest = let n : end - j ≡ suc (end - (j + 1)) = omega arith in rw (n, fe)
 
     -- the next record breaks a rule
-    pub breaks : (f ≡ 0 → ⊥) → Goes m t x end i ps (stopped f j) []
+    pub breaks : (e : Refusal) → f ≡ Err e → Goes m t x end i ps (Err e) []
     unfolding resumed
-    breaks z =
-        record {
-          is = λ rest reached. g.is rest reached ∙ one_step rest ∙ rw (ne_eqb f 0 z);
-          on = λ rest reached y. absurd (z y);
-        }
+    breaks e z = record { is = λ rest reached. g.is rest reached ∙ one_step rest ∙ rw z; on = λ rest reached. tt }
 
     -- or it does not, and all below it, which fits its place, come to w
-    pub passes : f ≡ 0 → {w : Found} → (fits c (record_at t j) ≡ true → Goes m t x end (j + 1) (map (place (d + 1)) (holds c (record_at t j))) w [])
+    pub passes : f ≡ Ok tt → {w : Result ℕ Refusal} → (fits c (record_at t j) ≡ true → Goes m t x end (j + 1) (map (place (d + 1)) (holds c (record_at t j))) w [])
         → Goes m t x end i ps w qs
     unfolding resumed
     passes z {w} b =
         record {
           is = λ rest reached.
               g.is rest reached ∙ one_step rest
-              ∙ rw (eq-eqb f 0 z) ((b (fits_here rest reached)).is (qs ++ rest) (below_reached t x end j d c (qs ++ rest) h (arrives rest reached)));
+              ∙ rw z ((b (fits_here rest reached)).is (qs ++ rest) (below_reached t x end j d c (qs ++ rest) h (arrives rest reached)));
           on = λ rest reached. (b (fits_here rest reached)).on (qs ++ rest) (below_reached t x end j d c (qs ++ rest) h (arrives rest reached));
         }
 
 -- ---- a row from its second place on
-module _ (row u n : ℕ) (r : Rules row u n) (h : 0 < n) where
-  both : (c : ℕ) (cs ds : List ℕ) (d : ℕ) → c ∷ cs ≡ d ∷ ds → (c ≡ d) × (cs ≡ ds)
-  both c cs ds d e = (cc, cc)
+module _ (row k i n : ℕ) (r : Rules row k i n) (h : 0 < n) where
+  both : (a : Option Rule) (cs ds : List (Option Rule)) (b : Option Rule) → a ∷ cs ≡ b ∷ ds → (a ≡ b) × (cs ≡ ds)
+  both a cs ds b e = (cc, cc)
 
-  split : (rule_at (class_at (row % 256)) ≡ u % 256) × (map rule_at (along (turn row) (n - 1)) ≡ bytes_of (u / 256) (n - 1))
+  split : (rule_at (class_at (row % 256)) ≡ rule_of k i) × (map rule_at (along (turn row) (n - 1)) ≡ rules_from k (i + 1) (n - 1))
   split = let z : n ≡ suc (n - 1) = omega arith in both _ _ _ _ (rw z at r.rules)
 
   pub first_held : row % 256 < classes_held
   first_held = (held_split row n h r.held).0
 
-  pub first_rule : rule_at (class_at (row % 256)) ≡ u % 256
+  pub first_rule : rule_at (class_at (row % 256)) ≡ rule_of k i
   first_rule = split.0
 
-  pub others : Rules (turn row) (u / 256) (n - 1)
+  pub others : Rules (turn row) k (i + 1) (n - 1)
   others = record { held = (held_split row n h r.held).1; rules = split.1 }
 
 -- ---- the row of a record's children, with the rules of its kind
-nothing_ruled : (n : ℕ) → bytes_of 0 n ≡ replicate n 0
-nothing_ruled zero = refl
-nothing_ruled (suc n) = rw (nothing_ruled n)
+-- two rows of rules are compared by a test that is computed
+abbrev pub tag : Option Rule → ℕ
+tag None = 0
+tag (Some Source) = 1
+tag (Some Rowid) = 2
 
-pub slots_ruled : below (λ k. same (map rule_at (slots_of (shape k))) (bytes_of (rules_of k) (length (slots_of (shape k))))) kinds_held ≡ true
-unfolding rule_at rules_of slots_of shape
+pub slots_ruled : below (λ k. same (map tag (map rule_at (slots_of (shape k)))) (map tag (rules_from k 0 (length (slots_of (shape k)))))) kinds_held ≡ true
+unfolding rule_at rule_of slots_of shape
 slots_ruled = refl
 
 -- some row has the places of a record's children, and the rules of its kind for them
 pub record Children (c : Class) (r : Record) : Type 0 where
   pub row : ℕ
-  pub rules : Rules row (rules_of r.kind) r.kids
+  pub rules : Rules row r.kind 0 r.kids
   pub are : holds c r ≡ along row r.kids
 
 -- the code's test for that

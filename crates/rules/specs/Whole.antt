@@ -1,45 +1,38 @@
 -- From 01's check and the walk to the answer in a mode; and what a mode admits, one that asks for less admits.
-use Prim.Native.Nat.{ℕ, zero, suc, ◌+◌, ◌-◌, ◌≤◌, ◌<◌}
-use native.Mathlib.Omega.{arith}
-use Rattle.std.specs.Prelude.{◌≡◌, Bool, not, ◌&&◌, ◌||◌, ltb, length}
-use Rattle.std.proofs.Math.Path.{refl, sym}
-use Rattle.std.proofs.Common.{◌∙◌, ap}
-use mathlib.Core.List.{List, [], ◌∷◌, ◌++◌, map}
-use Rattle.std.proofs.Math.Bool.{true, false}
+use Rattle.std.specs.Prelude.{ℕ, zero, suc, ◌+◌, ◌-◌, ◌≤◌, ◌<◌, ◌≡◌, refl, List, [], ◌∷◌, ◌++◌, map, Bool, true, false, not, ◌&&◌, ◌||◌, ltb, length, Ok, Err}
+use Rattle.std.proofs.Common.{arith, ◌∙◌, ap, sym}
 use Rattle.std.proofs.lemmas.Bool.{false≢true}
-use Rattle.std.proofs.Math.Dec.{eqb}
 use Rattle.laws.specs.First.{first}
 use Rattle.mode.specs.Options.{is_sqlite, plain}
 use Rattle.mode.specs.declared.Edition.{Edition}
 use Rattle.mode.specs.declared.Edition.TheVariants.{Crate, Sqlite}
 use Rattle.mode.specs.declared.Mode.{Mode}
-use Rattle.utf8.specs.Rfc3629 as utf8
-use Rattle.utf8.specs.declared.Encoding.{Encoding}
+use Rattle.utf8.specs.Rfc3629.{Encoding}
 use Rattle.record.specs.Record.{record_at, count, mark_ok}
+use Rattle.grammar.specs.Kind.{NONE}
 use Rattle.grammar.specs.Grammar.{root}
 use Rattle.grammar.specs.Classes.{classes, class_at, root_at, root_is}
-use Rattle.tree.specs.Check.{Place, place, holds, fits, inside, swallows, misnames, deepest, faults_in, scan_in, scan, malformed, longest, answer_in, answer_to, ChecksIn, number_of}
+use Rattle.tree.specs.Check.{Answer, Place, place, holds, fits, inside, swallows, misnames, deepest, faults_in, scan_in, scan, malformed, longest, or_broken, answer_in, answer_to, ChecksIn, number_of}
 use Rattle.tree.proofs.Bounds.{tree_short}
-use Rattle.tree.specs.declared.Answer.{Answer}
-use Rattle.tree.specs.declared.Answer.TheVariants.{Malformed, TooLong, Broken, Mark, Misfit, Outside, Unclosed, NotRowid, Deep}
-use Rattle.rules.specs.Rules.{rule_at, sound_to, sound_within}
+use Rattle.tree.specs.declared.Refusal.TheVariants.{Malformed, TooLong, Mark, Misfit, Outside, Unclosed, NotRowid, Deep}
+use Rattle.rules.specs.Rules.{rule_at, rule_of, sound_to, sound_within}
 use Rattle.rules.specs.Walk.{Reached, Rules, Led}
 
 -- the root's place, which has no rule
 abbrev pub at_root : List Place
 at_root = place 1 root ∷ []
 
-pub root_rules : Rules root_at 0 1
-unfolding rule_at class_at classes
+pub root_rules : Rules root_at NONE 0 1
+unfolding rule_at rule_of class_at classes
 root_rules = record { held = refl; rules = refl }
 
 -- ---- 1 and 2 come before all records: then no record is sound so far, and else the answer is the scan's
-early_or : (t : List ℕ) (f l b : Bool) (e : Encoding) (a s : Answer) → a ≡ first ((f, Malformed) ∷ (l, TooLong) ∷ (b, Broken e) ∷ []) s
+early_or : (t : List ℕ) (f l : Bool) (e : Encoding) (a s : Answer) → a ≡ first ((f, Err Malformed) ∷ (l, Err TooLong) ∷ []) (or_broken e s)
     → 0 < sound_to t a → a ≡ s
-early_or t true l b e a s q h = absurd (omega (arith, ap (sound_to t) q))
-early_or t false true b e a s q h = absurd (omega (arith, ap (sound_to t) q))
-early_or t false false true e a s q h = absurd (omega (arith, ap (sound_to t) q))
-early_or t false false false e a s q h = q
+early_or t true l e a s q h = absurd (omega (arith, ap (sound_to t) q))
+early_or t false true e a s q h = absurd (omega (arith, ap (sound_to t) q))
+early_or t false false (Err b) a s q h = absurd (omega (arith, ap (sound_to t) q))
+early_or t false false (Ok u) a s q h = q
 
 -- the answer of 01's check, whatever was said of the text's encoding
 pub record Answered (t x : List ℕ) (a : Answer) : Type 0 where
@@ -53,25 +46,25 @@ Ruled m t x a r = (e : Encoding) → a ≡ answer_to e t x → r ≡ answer_in m
 module _ (t x : List ℕ) (a : Answer) (c : Answered t x a) where
   scanned : 0 < sound_to t a → a ≡ scan t x (count t) 0 at_root
   unfolding answer_in
-  scanned h = early_or t (malformed t) (ltb longest (length x)) (not (eqb (utf8.number c.encoding) 0)) c.encoding a _ c.answers h
+  scanned h = early_or t (malformed t) (ltb longest (length x)) c.encoding a _ c.answers h
 
   pub root_reached : Reached t x (sound_to t a) 0 (place 1 (class_at root_at) ∷ [])
   root_reached h = let z : count t - 0 ≡ count t = omega arith in rw (root_is, z) (sym (ap (sound_to t) (scanned h)))
 
-  pub led : Led t x (sound_to t a) 0 64 0 1
+  pub led : Led t x (sound_to t a) 0 64 NONE 1
   led = record { row = root_at; rules = root_rules; rest = []; reached = root_reached }
 
   -- no more records are sound than there are
   pub sound_few : sound_to t a ≤ longest
   unfolding answer_in
-  sound_few = rw c.answers (by (malformed t) refl (ltb longest (length x)) (not (eqb (utf8.number c.encoding) 0)))
+  sound_few = rw c.answers (by (malformed t) refl (ltb longest (length x)) c.encoding)
     where
-      by : (f : Bool) → malformed t ≡ f → (l b : Bool)
-          → sound_to t (first ((f, Malformed) ∷ (l, TooLong) ∷ (b, Broken c.encoding) ∷ []) (scan t x (count t) 0 at_root)) ≤ longest
-      by true q l b = omega arith
-      by false q true b = omega arith
-      by false q false true = omega arith
-      by false q false false = omega (arith, sound_within t x (count t) 0 at_root (omega arith), tree_short t q)
+      by : (f : Bool) → malformed t ≡ f → (l : Bool) (e : Encoding)
+          → sound_to t (first ((f, Err Malformed) ∷ (l, Err TooLong) ∷ []) (or_broken e (scan t x (count t) 0 at_root))) ≤ longest
+      by true q l e = omega arith
+      by false q true e = omega arith
+      by false q false (Err b) = omega arith
+      by false q false (Ok u) = omega (arith, sound_within t x (count t) 0 at_root (omega arith), tree_short t q)
 
 -- ---- with no rule in force the mode is 01's
 crate_is : (v : Edition) → is_sqlite v ≡ false → Crate ≡ v
@@ -124,9 +117,9 @@ module _ (k m : Mode) (less : Looser k m) (t x : List ℕ) where
       (same_scan n (i + 1) (map (place (p.depth + 1)) (holds p.class r) ++ ps)) z
     where
       by : (g f o s q u v d : Bool) (a b : Answer) → (s ≡ false → u ≡ false) → (q ≡ false → v ≡ false) → (number_of b ≡ 0 → a ≡ b)
-          → number_of (first ((g, Mark i) ∷ (f, Misfit i) ∷ (o, Outside i) ∷ (s, Unclosed i) ∷ (q, NotRowid i) ∷ (d, Deep i) ∷ []) b) ≡ 0
-          → first ((g, Mark i) ∷ (f, Misfit i) ∷ (o, Outside i) ∷ (u, Unclosed i) ∷ (v, NotRowid i) ∷ (d, Deep i) ∷ []) a
-          ≡ first ((g, Mark i) ∷ (f, Misfit i) ∷ (o, Outside i) ∷ (s, Unclosed i) ∷ (q, NotRowid i) ∷ (d, Deep i) ∷ []) b
+          → number_of (first ((g, Err (Mark i)) ∷ (f, Err (Misfit i)) ∷ (o, Err (Outside i)) ∷ (s, Err (Unclosed i)) ∷ (q, Err (NotRowid i)) ∷ (d, Err (Deep i)) ∷ []) b) ≡ 0
+          → first ((g, Err (Mark i)) ∷ (f, Err (Misfit i)) ∷ (o, Err (Outside i)) ∷ (u, Err (Unclosed i)) ∷ (v, Err (NotRowid i)) ∷ (d, Err (Deep i)) ∷ []) a
+          ≡ first ((g, Err (Mark i)) ∷ (f, Err (Misfit i)) ∷ (o, Err (Outside i)) ∷ (s, Err (Unclosed i)) ∷ (q, Err (NotRowid i)) ∷ (d, Err (Deep i)) ∷ []) b
       by true f o s q u v d a b hs hq rest e = refl
       by false true o s q u v d a b hs hq rest e = refl
       by false false true s q u v d a b hs hq rest e = refl
@@ -141,12 +134,12 @@ module _ (k m : Mode) (less : Looser k m) (t x : List ℕ) where
       record {
         encoding = c.encoding;
         encoded = c.encoded;
-        answers = by (malformed t) (ltb longest (length x)) (not (eqb (utf8.number c.encoding) 0)) c.answers;
+        answers = by (malformed t) (ltb longest (length x)) c.encoding c.answers;
       }
     where
-      by : (f l b : Bool) → a ≡ first ((f, Malformed) ∷ (l, TooLong) ∷ (b, Broken c.encoding) ∷ []) (scan_in m t x (count t) 0 at_root)
-          → a ≡ first ((f, Malformed) ∷ (l, TooLong) ∷ (b, Broken c.encoding) ∷ []) (scan_in k t x (count t) 0 at_root)
-      by true l b e = e
-      by false true b e = e
-      by false false true e = e
-      by false false false e = e ∙ sym (same_scan (count t) 0 at_root (sym (ap number_of e) ∙ z))
+      by : (f l : Bool) (e : Encoding) → a ≡ first ((f, Err Malformed) ∷ (l, Err TooLong) ∷ []) (or_broken e (scan_in m t x (count t) 0 at_root))
+          → a ≡ first ((f, Err Malformed) ∷ (l, Err TooLong) ∷ []) (or_broken e (scan_in k t x (count t) 0 at_root))
+      by true l e q = q
+      by false true e q = q
+      by false false (Err b) q = q
+      by false false (Ok u) q = q ∙ sym (same_scan (count t) 0 at_root (sym (ap number_of q) ∙ z))

@@ -7,137 +7,126 @@
 ghost use Rattle.std.specs.Prelude.{◌≡◌, true, ◌≤◌};
 ghost use Rattle.tree.specs.Check.{inside as inside', longest, answer_in, ChecksIn};
 ghost use Rattle.tree.specs.Told.{taken};
-ghost use Rattle.rules.specs.Rules.{in_force as in_force', keeps as keeps', rule_fault as rule_fault', rules_of as rules_of', sound_to as sound_to', ruled as ruled'};
+ghost use Rattle.rules.specs.Rules.{in_force as in_force', keeps as keeps', refusal as refusal', rule_fault as rule_fault', rule_of as rule_of', sound_to as sound_to', ruled as ruled'};
 ghost use Rattle.rules.specs.Walk.{Led, Finds};
 ghost use Rattle.rules.specs.Whole.{Answered, Ruled};
 
-use grammar::kind::{CHECK, COLUMNS_AND_CONSTRAINTS, TEXT};
+use grammar::kind::{CHECK, COLUMNS_AND_CONSTRAINTS, NONE, TEXT};
 use mode::Mode;
 use record::Record;
-use tree::Answer;
+use tree::{Answer, Refusal};
 use utf8::Encoding;
 
-// The rule for a CHECK's source, and 02's number of one that breaks it.
-const SOURCE: u64 = 1;
-
-const UNCLOSED: u64 = 9;
-
-// The rule for a without_rowid_lem text, and its number.
-const ROWID: u64 = 2;
-
-const NOT_ROWID: u64 = 10;
-
-// The rules for a record's children are a number, a byte for each child, the first child's the lowest; 0 is no rule.
-const BYTE: u64 = 0x100;
-
-const NO_RULES: u64 = 0;
+// A rule for the TEXT of one place.
+#[derive(Clone, Copy, PartialEq, Eq)]
+enum Rule {
+    // A CHECK's source ends outside comments and quotes.
+    Source,
+    // A without-rowid text says WITHOUT ROWID.
+    Rowid,
+}
 
 // A CHECK's second child is its source.
-const CHECK_RULES: u64 = SOURCE * BYTE;
+const SOURCE_CHILD: u16 = 1;
 
-// A table's third child is its without_rowid_lem text.
-const TABLE_RULES: u64 = ROWID * BYTE * BYTE;
+// A table's third child is its without-rowid text.
+const ROWID_CHILD: u16 = 2;
 
 // The root is 1 deep, and a record may be this deep.
 const DEEPEST: usize = 64;
 
-// What a walk comes to: the number of a rule that is broken, and the record; or 0, and the index behind the walk.
+// What is walked: the records of a tree before an end, and in which mode.
 #[derive(Clone, Copy)]
-struct Found {
-    fault: u64,
-    at: usize,
+struct Walked<'a> {
+    tree: &'a [u8],
+    text: &'a [u8],
+    end: usize,
+    mode: Mode,
 }
 
 // Whether a rule is in force in a mode.
-fn in_force(rule: u64, mode: Mode) -> bool
+fn in_force(rule: Rule, mode: Mode) -> bool
     ensures { result ≡ in_force' rule mode }
 {
-    let strict = mode.strict;
-    let edition = mode.edition;
-    ((rule == SOURCE) & strict) | ((rule == ROWID) & mode::sqlite(edition))
+    match rule {
+        Rule::Source => mode.strict,
+        Rule::Rowid => mode::sqlite(mode.edition),
+    }
 }
 
 // Whether the part of a text that a record names keeps a rule.
-fn keeps(rule: u64, part: &[u8]) -> bool
+fn keeps(rule: Rule, part: &[u8]) -> bool
     ensures { result ≡ keeps' rule part.now }
 {
-    if rule == SOURCE {
-        return !source::ends_inside(part);
+    match rule {
+        Rule::Source => !source::ends_inside(part),
+        Rule::Rowid => rowid::names(part),
     }
-    rowid::names(part)
 }
 
-// The number that a record comes to in a place with a rule, or with none: 0, or that of the refusal.
-fn rule_fault(text: &[u8], rule: u64, r: Record, mode: Mode) -> u64
-    requires { inside' text.now r ≡ true }
-    ensures { result ≡ rule_fault' mode text.now rule r }
+// The refusal of the record at an index that breaks a rule.
+fn refusal(rule: Rule, index: usize) -> Refusal
+    ensures { result ≡ refusal' rule index }
 {
+    match rule {
+        Rule::Source => Refusal::Unclosed(index),
+        Rule::Rowid => Refusal::NotRowid(index),
+    }
+}
+
+// What the record at an index comes to in a place with a rule, or with none.
+fn rule_fault(text: &[u8], rule: Option<Rule>, r: Record, index: usize, mode: Mode) -> Answer
+    requires { inside' text.now r ≡ true }
+    ensures { result ≡ rule_fault' mode text.now rule r index }
+{
+    let Some(rule) = rule else {
+        return Ok(());
+    };
     if !in_force(rule, mode) {
-        return 0;
+        return Ok(());
     }
     if r.kind != TEXT {
-        return 0;
+        return Ok(());
     }
     let start = r.start as usize;
     let end = start + r.len as usize;
     if keeps(rule, &text[start..end]) {
-        return 0;
+        return Ok(());
     }
-    if rule == SOURCE { UNCLOSED } else { NOT_ROWID }
+    Err(refusal(rule, index))
 }
 
-// The rules for the children of a kind.
-fn rules_of(kind: u16) -> u64
-    ensures { result ≡ rules_of' kind }
+// The rule for a kind's child, the first being 0.
+fn rule_of(kind: u16, child: u16) -> Option<Rule>
+    ensures { result ≡ rule_of' kind child }
 {
-    if kind == CHECK {
-        return CHECK_RULES;
+    if (kind == CHECK) & (child == SOURCE_CHILD) {
+        return Some(Rule::Source);
     }
-    if kind == COLUMNS_AND_CONSTRAINTS {
-        return TABLE_RULES;
+    if (kind == COLUMNS_AND_CONSTRAINTS) & (child == ROWID_CHILD) {
+        return Some(Rule::Rowid);
     }
-    NO_RULES
+    None
 }
 
-// The first record before an end that breaks a rule, among n children with these rules and all below each.
-fn rule_row(
-    tree: &[u8],
-    text: &[u8],
-    index: usize,
-    rules: u64,
-    left: usize,
-    n: u16,
-    end: usize,
-    mode: Mode,
-) -> Found
-    requires { (left ≤ 64) × Led tree.now text.now end index left rules n }
-    ensures { Finds mode tree.now text.now end index left rules n result }
+// The first record that breaks a rule, among n children of a kind and all below each; or the index behind them, or the end where that is before.
+fn rule_row(on: &Walked, index: usize, kind: u16, left: usize, n: u16) -> Result<usize, Refusal>
+    requires { (left ≤ 64) × Led on.now.tree.now on.now.text.now on.now.end index left kind n }
+    ensures { Finds on.now.mode on.now.tree.now on.now.text.now on.now.end index left kind n result }
 {
     let mut next = index;
-    let mut row = rules;
-    let mut rest = n;
-    while 0 < rest {
-        if end <= next {
-            return Found { fault: 0, at: next };
+    for child in 0..n {
+        if on.end <= next {
+            return Ok(next);
         }
-        let r = record::read(tree, next);
-        let fault = rule_fault(text, row % BYTE, r, mode);
-        if fault != 0 {
-            return Found { fault, at: next };
-        }
+        let r = record::read(on.tree, next);
+        rule_fault(on.text, rule_of(kind, child), r, next, on.mode)?;
         next += 1;
-        if (r.kids != 0) & (next < end) {
-            let below = rules_of(r.kind);
-            let found = rule_row(tree, text, next, below, left - 1, r.kids, end, mode);
-            if found.fault != 0 {
-                return found;
-            }
-            next = found.at;
+        if (r.kids != 0) & (next < on.end) {
+            next = rule_row(on, next, r.kind, left - 1, r.kids)?;
         }
-        row = row / BYTE;
-        rest -= 1;
     }
-    Found { fault: 0, at: next }
+    Ok(next)
 }
 
 // How many records a rule may be asked of, where 01's check answers this: those before its refusal, and that record too if it is only too deep.
@@ -146,30 +135,27 @@ fn sound_to(tree: &[u8], a: Answer) -> usize
     ensures { result ≡ sound_to' tree.now a }
 {
     match a {
-        Answer::Admitted => record::count(tree),
-        Answer::Malformed => 0,
-        Answer::TooLong => 0,
-        Answer::Broken(_) => 0,
-        Answer::Mark(i) => i,
-        Answer::Misfit(i) => i,
-        Answer::Outside(i) => i,
-        Answer::Unclosed(i) => i,
-        Answer::NotRowid(i) => i,
-        Answer::Deep(i) => i + 1,
-        Answer::Ends(i) => i,
+        Ok(()) => record::count(tree),
+        Err(refusal) => match refusal {
+            Refusal::Malformed => 0,
+            Refusal::TooLong => 0,
+            Refusal::Broken(_) => 0,
+            Refusal::Mark(i) => i,
+            Refusal::Misfit(i) => i,
+            Refusal::Outside(i) => i,
+            Refusal::Unclosed(i) => i,
+            Refusal::NotRowid(i) => i,
+            Refusal::Deep(i) => i + 1,
+            Refusal::Ends(i) => i,
+        },
     }
 }
 
 // The answer in a mode, where 01's check answers this and the walk comes to that.
-fn ruled(a: Answer, w: Found) -> Answer
+fn ruled(a: Answer, w: Result<usize, Refusal>) -> Answer
     ensures { result ≡ ruled' a w }
 {
-    if w.fault == UNCLOSED {
-        return Answer::Unclosed(w.at);
-    }
-    if w.fault == NOT_ROWID {
-        return Answer::NotRowid(w.at);
-    }
+    w?;
     a
 }
 
@@ -183,8 +169,13 @@ fn in_mode(tree: &[u8], text: &[u8], a: Answer, mode: Mode) -> Answer
     if !(strict | mode::sqlite(edition)) {
         return a;
     }
-    let end = sound_to(tree, a);
-    ruled(a, rule_row(tree, text, 0, NO_RULES, DEEPEST, 1, end, mode))
+    let on = Walked {
+        tree,
+        text,
+        end: sound_to(tree, a),
+        mode,
+    };
+    ruled(a, rule_row(&on, 0, NONE, DEEPEST, 1))
 }
 
 // The check of a tree and its text in a mode: the first fitting refusal, or that they are admitted.

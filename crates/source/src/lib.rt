@@ -21,7 +21,7 @@ const DOUBLE_QUOTE: u8 = 0x22;
 const BACKTICK: u8 = 0x60;
 
 // Where the reading is.
-#[derive(Clone, Copy)]
+#[derive(Clone, Copy, PartialEq, Eq)]
 enum At {
     // Outside comments and quotes.
     Outside,
@@ -43,7 +43,7 @@ enum At {
 fn is_quote(b: u8) -> bool
     ensures { result ≡ is_quote' b }
 {
-    (b == APOSTROPHE) | ((b == DOUBLE_QUOTE) | (b == BACKTICK))
+    matches!(b, APOSTROPHE | DOUBLE_QUOTE | BACKTICK)
 }
 
 // Where a byte leads outside comments and quotes.
@@ -129,18 +129,11 @@ fn next(at: At, b: u8) -> At
 }
 
 // Whether a source that ends here ends inside a block comment or a quote.
+#[tactic(auto, unfolding(crate::specs::Source::ends))]
 fn inside(at: At) -> bool
     ensures { result ≡ is_inside (from at []) }
 {
-    match at {
-        At::Outside => false,
-        At::Dash => false,
-        At::Slash => false,
-        At::Line => false,
-        At::Block => true,
-        At::Star => true,
-        At::Quote(_) => true,
-    }
+    matches!(at, At::Block | At::Star | At::Quote(_))
 }
 
 // Whether a source, read from the left, ends inside a block comment or a quote; to end inside a line comment does not count.
@@ -148,10 +141,8 @@ pub fn ends_inside(source: &[u8]) -> bool
     ensures { result ≡ ends_inside' source.now }
 {
     let mut at = At::Outside;
-    let mut i = 0;
-    while i < source.len() {
-        at = next(at, source[i]);
-        i += 1;
+    for &b in source {
+        at = next(at, b);
     }
     inside(at)
 }

@@ -1,8 +1,7 @@
 // Prints the spelling table, a line for each number: the number, then its spelling, if it has one, or ` unknown`.
 #![tactic(auto)]
 
-// The descriptor of standard output.
-const STDOUT_FILENO: i32 = 1;
+use files::STDOUT_FILENO;
 
 // Numbers from here on are not printed.
 const NUMBERS: u16 = 256;

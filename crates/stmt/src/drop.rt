@@ -6,70 +6,48 @@ ghost use Rattle.grammar.specs.Kind.{DropType, DropSequence, DropDomain};
 ghost use Rattle.grammar.specs.Shape.{word as word', slot, ◌·◌};
 ghost use Rattle.grammar.specs.Grammar.{shape, run as run', if_exists_lem};
 ghost use Rattle.tokens.specs.Tokens.{flagged};
-ghost use Rattle.pen.specs.Pen.{source, Writes};
+ghost use Rattle.pen.specs.Pen.{input, Writes};
 
 use parts::{if_exists, name, run};
-use pen::{Pen, said, word};
+use pen::{Input, Pen, said, word};
 use spelling::token::{TK_DROP, TK_TYPE};
 
 // DropIndex, DropTable, DropTrigger and DropView (45 to 48): the word says which.
-pub fn drop_named(
-    p: Pen,
-    out: &mut [u8],
-    pool: &[u8],
-    tree: &[u8],
-    text: &[u8],
-    there: bool,
-    kind: u16,
-) -> Pen
-    ensures { (d : ℕ) (r : Record') → there ≡ flagged 0 r → Writes (source tree.now text.now) pool.now d r (word' TK_DROP' · word' kind · if_exists_lem · slot run') (p, out.old) (result, out.new) }
+pub fn drop_named(p: Pen, out: &mut [u8], from: &Input, there: bool, kind: u16) -> Pen
+    ensures { (d : ℕ) (r : Record') → there ≡ flagged 0 r → Writes (input from.now) from.now.pool.now d r (word' TK_DROP' · word' kind · if_exists_lem · slot run') (p, out.old) (result, out.new) }
 {
-    let q = word(p, out, pool, TK_DROP);
-    let q = word(q, out, pool, kind);
-    let q = if_exists(q, out, pool, there);
-    run(q, out, pool, tree, text)
+    let q = word(p, out, from, TK_DROP);
+    let q = word(q, out, from, kind);
+    let q = if_exists(q, out, from, there);
+    run(q, out, from)
 }
 
 // DropType (61).
-pub fn drop_type(p: Pen, out: &mut [u8], pool: &[u8], tree: &[u8], text: &[u8], there: bool) -> Pen
-    ensures { (d : ℕ) (r : Record') → there ≡ flagged 0 r → Writes (source tree.now text.now) pool.now d r (shape DropType) (p, out.old) (result, out.new) }
+pub fn drop_type(p: Pen, out: &mut [u8], from: &Input, there: bool) -> Pen
+    ensures { (d : ℕ) (r : Record') → there ≡ flagged 0 r → Writes (input from.now) from.now.pool.now d r (shape DropType) (p, out.old) (result, out.new) }
 {
-    let q = word(p, out, pool, TK_DROP);
-    let q = word(q, out, pool, TK_TYPE);
-    let q = if_exists(q, out, pool, there);
-    name(q, out, pool, tree, text)
+    let q = word(p, out, from, TK_DROP);
+    let q = word(q, out, from, TK_TYPE);
+    let q = if_exists(q, out, from, there);
+    name(q, out, from)
 }
 
 // DropSequence (63).
-pub fn drop_sequence(
-    p: Pen,
-    out: &mut [u8],
-    pool: &[u8],
-    tree: &[u8],
-    text: &[u8],
-    there: bool,
-) -> Pen
-    ensures { (d : ℕ) (r : Record') → there ≡ flagged 0 r → Writes (source tree.now text.now) pool.now d r (shape DropSequence) (p, out.old) (result, out.new) }
+pub fn drop_sequence(p: Pen, out: &mut [u8], from: &Input, there: bool) -> Pen
+    ensures { (d : ℕ) (r : Record') → there ≡ flagged 0 r → Writes (input from.now) from.now.pool.now d r (shape DropSequence) (p, out.old) (result, out.new) }
 {
-    let q = word(p, out, pool, TK_DROP);
-    let q = said(q, out, pool, b"SEQUENCE");
-    let q = if_exists(q, out, pool, there);
-    run(q, out, pool, tree, text)
+    let q = word(p, out, from, TK_DROP);
+    let q = said(q, out, from, b"SEQUENCE");
+    let q = if_exists(q, out, from, there);
+    run(q, out, from)
 }
 
 // DropDomain (64).
-pub fn drop_domain(
-    p: Pen,
-    out: &mut [u8],
-    pool: &[u8],
-    tree: &[u8],
-    text: &[u8],
-    there: bool,
-) -> Pen
-    ensures { (d : ℕ) (r : Record') → there ≡ flagged 0 r → Writes (source tree.now text.now) pool.now d r (shape DropDomain) (p, out.old) (result, out.new) }
+pub fn drop_domain(p: Pen, out: &mut [u8], from: &Input, there: bool) -> Pen
+    ensures { (d : ℕ) (r : Record') → there ≡ flagged 0 r → Writes (input from.now) from.now.pool.now d r (shape DropDomain) (p, out.old) (result, out.new) }
 {
-    let q = word(p, out, pool, TK_DROP);
-    let q = said(q, out, pool, b"DOMAIN");
-    let q = if_exists(q, out, pool, there);
-    name(q, out, pool, tree, text)
+    let q = word(p, out, from, TK_DROP);
+    let q = said(q, out, from, b"DOMAIN");
+    let q = if_exists(q, out, from, there);
+    name(q, out, from)
 }

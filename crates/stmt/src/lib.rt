@@ -3,8 +3,8 @@
 
 ghost use Rattle.grammar.specs.Kind.{AlterTable, Delete, Savepoint};
 ghost use Rattle.grammar.specs.Shape.{slot};
-ghost use Rattle.grammar.specs.Grammar.{from, node, statement};
-ghost use Rattle.pen.specs.Pen.{source, source_in, Below};
+ghost use Rattle.grammar.specs.Grammar.{from as from', node, statement};
+ghost use Rattle.pen.specs.Pen.{input, input_in, Below};
 
 use clause::select::select;
 use create::{
@@ -19,9 +19,8 @@ use grammar::kind::{
     DROP_TABLE, DROP_TRIGGER, DROP_TYPE, DROP_VIEW, INSERT, OPTIMIZE, PRAGMA, REINDEX, RELEASE,
     ROLLBACK, SAVEPOINT, SELECT_STMT, UPDATE, VACUUM,
 };
-use mode::Edition;
 use parts::{first_flag, run, second_flag, third_flag};
-use pen::{Pen, pass};
+use pen::{Input, Pen, pass};
 use plain::{alter_table, attach, begin, commit, optimize, pragma, rollback, vacuum, word_run};
 use rows::{delete, insert, update};
 use spelling::token::{
@@ -35,187 +34,156 @@ mod plain;
 mod rows;
 
 // The statements from AlterTable to CreateVirtualTable (32 to 42).
-fn stmt_to_create_virtual_table(
-    p: Pen,
-    out: &mut [u8],
-    pool: &[u8],
-    tree: &[u8],
-    text: &[u8],
-    left: usize,
-    edition: Edition,
-) -> Pen
-    ensures { Below (source_in tree.now text.now edition) pool.now left (slot (node (from AlterTable 11))) (p, out.old) (result, out.new) }
+fn stmt_to_create_virtual_table(p: Pen, out: &mut [u8], from: &Input, left: usize) -> Pen
+    ensures { Below (input_in from.now) from.now.pool.now left (slot (node (from' AlterTable 11))) (p, out.old) (result, out.new) }
 {
-    let r = record::read(tree, p.next);
+    let r = record::read(from.tree, p.next);
     if left == 0 {
-        return run(p, out, pool, tree, text);
+        return run(p, out, from);
     }
-    let q = pass(p, tree);
+    let q = pass(p, from);
     let first = first_flag(r.flags);
     let second = second_flag(r.flags);
     let third = third_flag(r.flags);
     if r.kind == ALTER_TABLE {
-        return alter_table(q, out, pool, tree, text, left - 1);
+        return alter_table(q, out, from, left - 1);
     }
     if r.kind == ANALYZE {
-        return word_run(q, out, pool, tree, text, TK_ANALYZE);
+        return word_run(q, out, from, TK_ANALYZE);
     }
     if r.kind == ATTACH {
-        return attach(q, out, pool, tree, text);
+        return attach(q, out, from);
     }
     if r.kind == BEGIN {
-        return begin(q, out, pool, tree, text);
+        return begin(q, out, from);
     }
     if r.kind == COMMIT {
-        return commit(q, out, pool, tree, text);
+        return commit(q, out, from);
     }
     if r.kind == CREATE_INDEX {
-        return create_index(q, out, pool, tree, text, left - 1, first, second);
+        return create_index(q, out, from, left - 1, first, second);
     }
     if r.kind == CREATE_TABLE {
-        return create_table(q, out, pool, tree, text, left - 1, first, second, edition);
+        return create_table(q, out, from, left - 1, first, second);
     }
     if r.kind == CREATE_TRIGGER {
-        return create_trigger(q, out, pool, tree, text, first, second, third);
+        return create_trigger(q, out, from, first, second, third);
     }
     if r.kind == CREATE_VIEW {
-        return create_view(q, out, pool, tree, text, left - 1, first, second);
+        return create_view(q, out, from, left - 1, first, second);
     }
     if r.kind == CREATE_MATERIALIZED_VIEW {
-        return create_materialized_view(q, out, pool, tree, text, left - 1, first);
+        return create_materialized_view(q, out, from, left - 1, first);
     }
     if r.kind == CREATE_VIRTUAL_TABLE {
-        return create_virtual_table(q, out, pool, tree, text, first);
+        return create_virtual_table(q, out, from, first);
     }
-    run(p, out, pool, tree, text)
+    run(p, out, from)
 }
 
 // The statements from Delete to Rollback (43 to 54).
-fn stmt_to_rollback(
-    p: Pen,
-    out: &mut [u8],
-    pool: &[u8],
-    tree: &[u8],
-    text: &[u8],
-    left: usize,
-) -> Pen
-    ensures { Below (source tree.now text.now) pool.now left (slot (node (from Delete 12))) (p, out.old) (result, out.new) }
+fn stmt_to_rollback(p: Pen, out: &mut [u8], from: &Input, left: usize) -> Pen
+    ensures { Below (input from.now) from.now.pool.now left (slot (node (from' Delete 12))) (p, out.old) (result, out.new) }
 {
-    let r = record::read(tree, p.next);
+    let r = record::read(from.tree, p.next);
     if left == 0 {
-        return run(p, out, pool, tree, text);
+        return run(p, out, from);
     }
-    let q = pass(p, tree);
+    let q = pass(p, from);
     let first = first_flag(r.flags);
     if r.kind == DELETE {
-        return delete(q, out, pool, tree, text, left - 1);
+        return delete(q, out, from, left - 1);
     }
     if r.kind == DETACH {
-        return word_run(q, out, pool, tree, text, TK_DETACH);
+        return word_run(q, out, from, TK_DETACH);
     }
     if r.kind == DROP_INDEX {
-        return drop_named(q, out, pool, tree, text, first, TK_INDEX);
+        return drop_named(q, out, from, first, TK_INDEX);
     }
     if r.kind == DROP_TABLE {
-        return drop_named(q, out, pool, tree, text, first, TK_TABLE);
+        return drop_named(q, out, from, first, TK_TABLE);
     }
     if r.kind == DROP_TRIGGER {
-        return drop_named(q, out, pool, tree, text, first, TK_TRIGGER);
+        return drop_named(q, out, from, first, TK_TRIGGER);
     }
     if r.kind == DROP_VIEW {
-        return drop_named(q, out, pool, tree, text, first, TK_VIEW);
+        return drop_named(q, out, from, first, TK_VIEW);
     }
     if r.kind == INSERT {
-        return insert(q, out, pool, tree, text, left - 1);
+        return insert(q, out, from, left - 1);
     }
     if r.kind == PRAGMA {
-        return pragma(q, out, pool, tree, text);
+        return pragma(q, out, from);
     }
     if r.kind == REINDEX {
-        return word_run(q, out, pool, tree, text, TK_REINDEX);
+        return word_run(q, out, from, TK_REINDEX);
     }
     if r.kind == OPTIMIZE {
-        return optimize(q, out, pool, tree, text);
+        return optimize(q, out, from);
     }
     if r.kind == RELEASE {
-        return word_run(q, out, pool, tree, text, TK_RELEASE);
+        return word_run(q, out, from, TK_RELEASE);
     }
     if r.kind == ROLLBACK {
-        return rollback(q, out, pool, tree, text);
+        return rollback(q, out, from);
     }
-    run(p, out, pool, tree, text)
+    run(p, out, from)
 }
 
 // The statements from Savepoint to DropDomain (55 to 64).
-fn stmt_to_drop_domain(
-    p: Pen,
-    out: &mut [u8],
-    pool: &[u8],
-    tree: &[u8],
-    text: &[u8],
-    left: usize,
-    edition: Edition,
-) -> Pen
-    ensures { Below (source_in tree.now text.now edition) pool.now left (slot (node (from Savepoint 10))) (p, out.old) (result, out.new) }
+fn stmt_to_drop_domain(p: Pen, out: &mut [u8], from: &Input, left: usize) -> Pen
+    ensures { Below (input_in from.now) from.now.pool.now left (slot (node (from' Savepoint 10))) (p, out.old) (result, out.new) }
 {
-    let r = record::read(tree, p.next);
+    let r = record::read(from.tree, p.next);
     if left == 0 {
-        return run(p, out, pool, tree, text);
+        return run(p, out, from);
     }
-    let q = pass(p, tree);
+    let q = pass(p, from);
     let first = first_flag(r.flags);
     let second = second_flag(r.flags);
     if r.kind == SAVEPOINT {
-        return word_run(q, out, pool, tree, text, TK_SAVEPOINT);
+        return word_run(q, out, from, TK_SAVEPOINT);
     }
     if r.kind == SELECT_STMT {
-        return select(q, out, pool, tree, text, left - 1);
+        return select(q, out, from, left - 1);
     }
     if r.kind == UPDATE {
-        return update(q, out, pool, tree, text, left - 1);
+        return update(q, out, from, left - 1);
     }
     if r.kind == VACUUM {
-        return vacuum(q, out, pool, tree, text);
+        return vacuum(q, out, from);
     }
     if r.kind == CREATE_TYPE {
-        return create_type(q, out, pool, tree, text, left - 1, first, edition);
+        return create_type(q, out, from, left - 1, first);
     }
     if r.kind == CREATE_DOMAIN {
-        return create_domain(q, out, pool, tree, text, left - 1, first, second);
+        return create_domain(q, out, from, left - 1, first, second);
     }
     if r.kind == DROP_TYPE {
-        return drop_type(q, out, pool, tree, text, first);
+        return drop_type(q, out, from, first);
     }
     if r.kind == CREATE_SEQUENCE {
-        return create_sequence(q, out, pool, tree, text, first, second);
+        return create_sequence(q, out, from, first, second);
     }
     if r.kind == DROP_SEQUENCE {
-        return drop_sequence(q, out, pool, tree, text, first);
+        return drop_sequence(q, out, from, first);
     }
     if r.kind == DROP_DOMAIN {
-        return drop_domain(q, out, pool, tree, text, first);
+        return drop_domain(q, out, from, first);
     }
-    run(p, out, pool, tree, text)
+    run(p, out, from)
 }
 
 // Stmt (32 to 64).
-pub fn stmt(
-    p: Pen,
-    out: &mut [u8],
-    pool: &[u8],
-    tree: &[u8],
-    text: &[u8],
-    left: usize,
-    edition: Edition,
-) -> Pen
-    ensures { Below (source_in tree.now text.now edition) pool.now left (slot statement) (p, out.old) (result, out.new) }
+pub fn stmt(p: Pen, out: &mut [u8], from: &Input, left: usize) -> Pen
+    ensures { Below (input_in from.now) from.now.pool.now left (slot statement) (p, out.old) (result, out.new) }
 {
-    let r = record::read(tree, p.next);
+    let r = record::read(from.tree, p.next);
     if r.kind < DELETE {
-        return stmt_to_create_virtual_table(p, out, pool, tree, text, left, edition);
+        return stmt_to_create_virtual_table(p, out, from, left);
     }
     if r.kind < SAVEPOINT {
-        return stmt_to_rollback(p, out, pool, tree, text, left);
+        return stmt_to_rollback(p, out, from, left);
     }
-    stmt_to_drop_domain(p, out, pool, tree, text, left, edition)
+    stmt_to_drop_domain(p, out, from, left)
 }

@@ -7,7 +7,7 @@ use Rattle.laws.specs.Sets.{sets_append, sets_past}
 use Rattle.laws.specs.Text.{ascii}
 use Rattle.spelling.specs.Token.{TK_BLOB}
 use Rattle.blank.specs.Blank.{blank, all_blank}
-use Rattle.stream.specs.Stream.{Value, some, tight, opens, gap, gapped, blob, spelled_bit, written, valued_bit, added, left}
+use Rattle.stream.specs.Stream.{Value, none, some, tight, opens, gap, gapped, blob, spelled_bit, written, valued_bit, added, left}
 use Rattle.stream.specs.Sink.{State, most, count, pour, mark, step, given, between}
 
 -- counting
@@ -92,21 +92,21 @@ unfolding spelled_bit
 spell_one st st' k [] b h p e = absurd (h refl)
 spell_one st st' k (x ∷ w) b h p e = rw (p, e)
 
-pub value_one : (st st' : State) (v : List ℕ) (has b : Bool) → has ≡ true → st' ≡ pour st v → b ≡ all_blank v → mark st' b ≡ mark (pour st (written (given has v))) (valued_bit st.0.spaced (given has v))
+pub value_one : (st st' : State) (v : List ℕ) (w : Value) (b : Bool) → w ≡ some v → st' ≡ pour st v → b ≡ all_blank v → mark st' b ≡ mark (pour st (written w)) (valued_bit st.0.spaced w)
 unfolding written valued_bit
-value_one st st' v has b e p q = rw (e, p, q)
+value_one st st' v w b e p q = rw (e, p, q)
 
-pub value_none : (st : State) (v : List ℕ) (has : Bool) → st.0.at ≤ most → has ≡ false → st ≡ mark (pour st (written (given has v))) (valued_bit st.0.spaced (given has v))
+pub value_none : (st : State) (w : Value) → st.0.at ≤ most → w ≡ none → st ≡ mark (pour st (written w)) (valued_bit st.0.spaced w)
 unfolding written valued_bit
-value_none st v has h e = rw (e, pour_none st h) (sym (mark_same st st.0.spaced refl))
+value_none st w h e = rw (e, pour_none st h) (sym (mark_same st st.0.spaced refl))
 
-pub blob_one : (st st' : State) (v : List ℕ) (has : Bool) → has ≡ true → st' ≡ pour st v → st' ≡ pour st (blob (given has v))
+pub blob_one : (st st' : State) (v : List ℕ) (w : Value) → w ≡ some v → st' ≡ pour st v → st' ≡ pour st (blob w)
 unfolding blob
-blob_one st st' v has e p = rw (e, p)
+blob_one st st' v w e p = rw (e, p)
 
-pub blob_none : (st st' : State) (v : List ℕ) (has : Bool) → has ≡ false → st' ≡ pour st (ascii "X''") → st' ≡ pour st (blob (given has v))
+pub blob_none : (st st' : State) (w : Value) → w ≡ none → st' ≡ pour st (ascii "X''") → st' ≡ pour st (blob w)
 unfolding blob
-blob_none st st' v has e p = rw (e, p)
+blob_none st st' w e p = rw (e, p)
 
 -- the bit is set beside what is poured, and the next list goes on behind it
 beside : (st : State) (x : Bool) (b : List ℕ) → pour (mark st x) b ≡ mark (pour st b) x

@@ -1,5 +1,6 @@
 -- The sink takes everything: a byte that finds no room in the output is only counted.
-use Rattle.std.specs.Prelude.{ℕ, ◌+◌, min, List, [], ◌∷◌, ◌++◌, Bool, true, false, cond, eqb, length}
+use Rattle.std.specs.Prelude.{ℕ, ◌+◌, min, List, [], ◌∷◌, ◌++◌, Bool, true, false, Option, Some, None, cond, eqb, length}
+use Rattle.std.specs.Borrow.{Bor}
 use Rattle.std.proofs.lemmas.List.Edits.{sets}
 use Rattle.laws.specs.Text.{ascii}
 use Rattle.stream.specs.Stream.{Value, none, some, added, left}
@@ -30,6 +31,11 @@ abbrev pub given : Bool → List ℕ → Value
 given true v = some v
 given false v = none
 
+-- a value that is lent, where there is one
+abbrev pub value_of : Option (Bor (List ℕ)) → Value
+value_of (Some v) = some v.now
+value_of None = none
+
 -- a value between quotes
 abbrev pub between : List ℕ → List ℕ
 between v = ascii "'" ++ v ++ ascii "'"
@@ -38,3 +44,7 @@ between v = ascii "'" ++ v ++ ascii "'"
 unfoldable pub doubled : List ℕ → List ℕ
 doubled [] = []
 doubled (b ∷ x) = cond (eqb b 0x27) (b ∷ b ∷ doubled x) (b ∷ doubled x)
+
+-- a value, with each quote in it doubled or as it is
+abbrev pub inside : Bool → List ℕ → List ℕ
+inside twice v = cond twice (doubled v) v

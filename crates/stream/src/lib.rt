@@ -5,32 +5,31 @@
 #![tactic(auto)]
 
 ghost use Rattle.std.specs.Prelude.{◌≡◌, [], ◌∷◌};
-ghost use Rattle.stream.specs.Stream.{some, tight as tight', opens as opens', gap as gap', gapped, blob as blob', spelled_bit, written, valued_bit};
+ghost use Rattle.stream.specs.Stream.{none, some, tight as tight', opens as opens', gap as gap', gapped, spelled_bit, written, valued_bit};
 ghost use Rattle.spelling.specs.Token.{TK_STRING as TK_STRING'};
-ghost use Rattle.stream.specs.Sink.{count, pour, mark, given, between, doubled as doubled', step};
+ghost use Rattle.stream.specs.Sink.{count, pour, mark, value_of, between, inside, doubled as doubled', step};
 
 use spelling::token::{
     TK_BLOB, TK_COMMA, TK_DOT, TK_LBRACKET, TK_LP, TK_RBRACKET, TK_RP, TK_SEMI, TK_STRING,
 };
-
-const MOST: usize = 0xffff_ffff_ffff_ffff;
 
 const SPACE: u8 = b' ';
 
 const QUOTE: u8 = b'\'';
 
 // It is handed on field by field: a copy of the whole would move its unused bytes too, and wait for them.
-#[derive(Clone, Copy)]
+#[derive(Clone, Copy, PartialEq, Eq, Debug)]
 pub struct Sink {
     pub spaced: bool,
     pub at: usize,
 }
 
 // n more, but no more than the largest number.
+#[tactic(auto, unfolding(crate::specs::Sink::count))]
 pub fn plus(at: usize, n: usize) -> usize
     ensures { result ≡ count at n }
 {
-    if n <= MOST - at { at + n } else { MOST }
+    at.saturating_add(n)
 }
 
 // Bytes are stored and counted.
@@ -56,20 +55,22 @@ pub fn put_byte(s: Sink, out: &mut [u8], b: u8) -> Sink
 }
 
 // Whether a kind is written with no space before it.
+#[tactic(auto, unfolding(crate::specs::Stream::tight))]
 fn tight(kind: u16) -> bool
     ensures { result ≡ tight' kind }
 {
-    (kind == TK_COMMA)
-        | ((kind == TK_SEMI)
-            | ((kind == TK_RP)
-                | ((kind == TK_DOT) | ((kind == TK_LBRACKET) | (kind == TK_RBRACKET)))))
+    matches!(
+        kind,
+        TK_COMMA | TK_SEMI | TK_RP | TK_DOT | TK_LBRACKET | TK_RBRACKET
+    )
 }
 
 // Whether the spelling of a kind sets the bit.
+#[tactic(auto, unfolding(crate::specs::Stream::opens))]
 pub fn opens(kind: u16) -> bool
     ensures { result ≡ opens' kind }
 {
-    (kind == TK_LP) | ((kind == TK_DOT) | (kind == TK_LBRACKET))
+    matches!(kind, TK_LP | TK_DOT | TK_LBRACKET)
 }
 
 // The space before a token, where there is one.
@@ -87,17 +88,6 @@ pub fn gap(s: Sink, out: &mut [u8], kind: u16) -> Sink
             spaced: true,
             at: t.at,
         }
-    }
-}
-
-// A blob: the value, or X'' if there is none.
-fn blob(s: Sink, out: &mut [u8], has: bool, value: &[u8]) -> Sink
-    ensures { (result, out.new) ≡ pour (s, out.old) (blob' (given has value.now)) }
-{
-    if has {
-        put(s, out, value)
-    } else {
-        put(s, out, b"X''")
     }
 }
 
@@ -119,59 +109,50 @@ fn spell(s: Sink, out: &mut [u8], kind: u16, word: &[u8]) -> Sink
     }
 }
 
-// The value, where there is one.
-fn valued(s: Sink, out: &mut [u8], has: bool, value: &[u8]) -> Sink
-    ensures { (result, out.new) ≡ mark (pour (s, out.old) (written (given has value.now))) (valued_bit s.spaced (given has value.now)) }
+// A value, which sets the bit if it is all blank.
+fn value_put(s: Sink, out: &mut [u8], value: &[u8]) -> Sink
+    ensures { (result, out.new) ≡ mark (pour (s, out.old) (written (some value.now))) (valued_bit s.spaced (some value.now)) }
 {
-    if has {
-        let t = put(s, out, value);
-        Sink {
-            spaced: blank::all_blank(value),
-            at: t.at,
-        }
-    } else {
-        Sink {
-            spaced: s.spaced,
-            at: s.at,
-        }
+    let t = put(s, out, value);
+    Sink {
+        spaced: blank::all_blank(value),
+        at: t.at,
     }
 }
 
-// One token: a kind, word, which is the fixed spelling of its kind, and a value where has. Both are taken up before anything
-// is stored, so that where they lie and how long they are need not be read again.
-pub fn append(s: Sink, out: &mut [u8], kind: u16, word: &[u8], has: bool, value: &[u8]) -> Sink
-    ensures { (result, out.new) ≡ step (s, out.old) kind word.now (given has value.now) }
+// One token with no value: a kind, and word, which is the fixed spelling of its kind.
+fn bare(s: Sink, out: &mut [u8], kind: u16, word: &[u8]) -> Sink
+    ensures { (result, out.new) ≡ step (s, out.old) kind word.now none }
 {
-    let w = &word[0..];
-    let v = &value[0..];
+    let t = gap(s, out, kind);
+    if kind != TK_BLOB {
+        return spell(t, out, kind, word);
+    }
+    put(t, out, b"X''")
+}
+
+// The same with a value.
+fn valued(s: Sink, out: &mut [u8], kind: u16, word: &[u8], value: &[u8]) -> Sink
+    ensures { (result, out.new) ≡ step (s, out.old) kind word.now (some value.now) }
+{
     let t = gap(s, out, kind);
     if kind == TK_BLOB {
-        blob(t, out, has, v)
+        put(t, out, value)
     } else {
-        let u = spell(t, out, kind, w);
-        valued(u, out, has, v)
+        let u = spell(t, out, kind, word);
+        value_put(u, out, value)
     }
 }
 
-// A value between quotes.
-fn in_quotes(s: Sink, out: &mut [u8], value: &[u8]) -> Sink
-    ensures { (result, out.new) ≡ pour (s, out.old) (between value.now) }
+// One token: a kind, word, which is the fixed spelling of its kind, and its value, where it has one. Inlined, so that of a value which
+// is known to be there, or not, nothing is stored and asked: render takes 280,000 instructions less on the schema.
+#[inline(always)]
+pub fn append(s: Sink, out: &mut [u8], kind: u16, word: &[u8], value: Option<&[u8]>) -> Sink
+    ensures { (result, out.new) ≡ step (s, out.old) kind word.now (value_of value.entry) }
 {
-    let t = put(s, out, b"'");
-    let t = put(t, out, value);
-    put(t, out, b"'")
-}
-
-// TK_STRING, whose fixed spelling is word, with a value between quotes.
-pub fn quoted(s: Sink, out: &mut [u8], word: &[u8], value: &[u8]) -> Sink
-    ensures { (result, out.new) ≡ step (s, out.old) TK_STRING' word.now (some (between value.now)) }
-{
-    let t = gap(s, out, TK_STRING);
-    let u = spell(t, out, TK_STRING, word);
-    let v = in_quotes(u, out, value);
-    Sink {
-        spaced: false,
-        at: v.at,
+    match value {
+        Some(v) => valued(s, out, kind, word, v),
+        None => bare(s, out, kind, word),
     }
 }
 
@@ -188,32 +169,55 @@ fn pour_doubled(s: Sink, out: &mut [u8], value: &[u8]) -> Sink
     ensures { (result, out.new) ≡ pour (s, out.old) (doubled' value.now) }
 {
     let mut t = s;
-    let mut i = 0;
-    while i < value.len() {
-        t = twice(t, out, value[i]);
-        i += 1;
+    for &b in value {
+        t = twice(t, out, b);
     }
     t
 }
 
-// A value between quotes, with each quote in it doubled.
-fn in_quotes_doubled(s: Sink, out: &mut [u8], value: &[u8]) -> Sink
-    ensures { (result, out.new) ≡ pour (s, out.old) (between (doubled' value.now)) }
+// A value, with each quote in it doubled where DOUBLED.
+fn pour_inside<const DOUBLED: bool>(s: Sink, out: &mut [u8], value: &[u8]) -> Sink
+    ensures { (result, out.new) ≡ pour (s, out.old) (inside DOUBLED value.now) }
 {
-    let t = put_byte(s, out, QUOTE);
-    let t = pour_doubled(t, out, value);
-    put_byte(t, out, QUOTE)
+    if DOUBLED {
+        pour_doubled(s, out, value)
+    } else {
+        put(s, out, value)
+    }
+}
+
+// A value between quotes, with each quote in it doubled where DOUBLED.
+fn in_quotes<const DOUBLED: bool>(s: Sink, out: &mut [u8], value: &[u8]) -> Sink
+    ensures { (result, out.new) ≡ pour (s, out.old) (between (inside DOUBLED value.now)) }
+{
+    let t = put(s, out, b"'");
+    let t = pour_inside::<DOUBLED>(t, out, value);
+    put(t, out, b"'")
+}
+
+// TK_STRING, whose fixed spelling is word, with a value between quotes, and each quote in it doubled where DOUBLED.
+fn string<const DOUBLED: bool>(s: Sink, out: &mut [u8], word: &[u8], value: &[u8]) -> Sink
+    ensures { (result, out.new) ≡ step (s, out.old) TK_STRING' word.now (some (between (inside DOUBLED value.now))) }
+{
+    let t = gap(s, out, TK_STRING);
+    let u = spell(t, out, TK_STRING, word);
+    let v = in_quotes::<DOUBLED>(u, out, value);
+    Sink {
+        spaced: false,
+        at: v.at,
+    }
+}
+
+// TK_STRING, whose fixed spelling is word, with a value between quotes.
+pub fn quoted(s: Sink, out: &mut [u8], word: &[u8], value: &[u8]) -> Sink
+    ensures { (result, out.new) ≡ step (s, out.old) TK_STRING' word.now (some (between value.now)) }
+{
+    string::<false>(s, out, word, value)
 }
 
 // TK_STRING, whose fixed spelling is word, with a value between quotes and each quote in it doubled.
 pub fn doubled(s: Sink, out: &mut [u8], word: &[u8], value: &[u8]) -> Sink
     ensures { (result, out.new) ≡ step (s, out.old) TK_STRING' word.now (some (between (doubled' value.now))) }
 {
-    let g = gap(s, out, TK_STRING);
-    let w = spell(g, out, TK_STRING, word);
-    let v = in_quotes_doubled(w, out, value);
-    Sink {
-        spaced: false,
-        at: v.at,
-    }
+    string::<true>(s, out, word, value)
 }

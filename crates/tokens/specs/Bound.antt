@@ -29,7 +29,7 @@ pub record Within (e : Source) (n j : ℕ) (o : Out) : Type 0 where
   pub high : o.next ≤ count e.tree
   pub weight : weigh o.tokens + paid e j ≤ n + paid e o.next
 
--- ---- a tree and a text of bytes that are not over_long
+-- ---- a tree and a text of bytes that are not over-long
 pub record Bounded (e : Source) : Type 0 where
   pub tree : length e.tree ≤ longest
   pub bytes : (k : ℕ) → get_or e.tree k 0 < 256

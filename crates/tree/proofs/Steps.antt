@@ -1,5 +1,5 @@
 -- Laws of the walk on child records: the places of a record's children, and the way along them.
-use Rattle.std.specs.Prelude.{ℕ, suc, ◌+◌, ◌-◌, ◌%◌, ◌≤◌, ◌<◌, ◌≡◌, refl, List, [], ◌∷◌, ◌++◌, map, Bool, true, false, ◌||◌, eqb, ltb, length, replicate}
+use Rattle.std.specs.Prelude.{ℕ, suc, ◌+◌, ◌-◌, ◌%◌, ◌≤◌, ◌<◌, ◌≡◌, refl, List, [], ◌∷◌, ◌++◌, map, Bool, true, false, ◌||◌, eqb, ltb, length, replicate, Ok, Err}
 use Rattle.std.proofs.Common.{arith, ◌∙◌, ap, sym}
 use borrow.Author.Tests.{eqb-true, eqb-false, eq-eqb, ne_eqb, ltb-true}
 use Rattle.laws.specs.Tests.{and_left, and_right}
@@ -12,10 +12,11 @@ use Rattle.grammar.specs.Slots.{slots_of, allowed, elements}
 use Rattle.grammar.specs.Classes.{classes_held, class_at, token_at, token_is}
 use Rattle.grammar.specs.Packed.{kinds_held, row_of, turn, along, all_held}
 use Rattle.grammar.specs.Laws.{allowed_held, list_along, list_held, slots_along, slots_held}
-use Rattle.tree.specs.Check.{Place, place, holds, fits, scan}
+use Rattle.tree.specs.Check.{Admitted, Place, place, holds, fits, scan}
 use Rattle.tree.specs.Laws.{token_holds}
-use Rattle.tree.specs.Walk.{refused, answer_of, resumed, Walks, Meets}
-use Rattle.tree.proofs.Walk.{resumed_next, resumed_refused, fine_fits, fine_left, down}
+use Rattle.tree.specs.declared.Refusal.{Refusal}
+use Rattle.tree.specs.Walk.{refused, Small, Walks, met_at}
+use Rattle.tree.proofs.Walk.{met_stops, met_small, down}
 use Rattle.tree.specs.Steps.{Along}
 
 -- ---- the children of a record that fits
@@ -81,75 +82,39 @@ token_childless r fe =
     only true h = refl
     only false h = h
 
-pub along_start : (t x : List ℕ) (i : ℕ) (ps : List Place) → count t < refused → i ≤ count t → Along t x i ps i ps
-along_start t x i ps s h = record { onward = omega arith; ended = λ _. h; is = λ rest. resumed_next t x i (ps ++ rest) (omega arith) }
+pub along_start : (t x : List ℕ) (i : ℕ) (ps : List Place) → i ≤ count t → Along t x i ps i ps
+along_start t x i ps h = record { ended = h; is = λ rest. refl }
 
 -- no places are filled by no records
-pub nothing_walked : (t x : List ℕ) (i : ℕ) → count t < refused → i ≤ count t → Walks t x i [] i
-nothing_walked t x i s h = record { onward = omega arith; ended = λ _. h; is = λ rest. sym (resumed_next t x i rest (omega arith)) }
+pub nothing_walked : (t x : List ℕ) (i : ℕ) → i ≤ count t → Walks t x i [] (Ok i)
+nothing_walked t x i h = record { is = λ rest. refl; ended = h; small = tt }
 
 -- along what may stand in the places: cs is left
-module _ (t x : List ℕ) (i : ℕ) (ps : List Place) (j d : ℕ) (cs : List Class) (a : Along t x i ps j (map (place d) cs)) where
-  pub row_end : cs ≡ [] → Walks t x i ps j
-  row_end e = record { onward = a.onward; ended = a.ended; is = λ rest. sym (rw e at (a.is rest)) }
+module _ (t x : List ℕ) (i : ℕ) (ps : List Place) (j left : ℕ) (cs : List Class) (a : Along t x i ps j (map (place (65 - left)) cs)) where
+  pub row_end : cs ≡ [] → Walks t x i ps (Ok j)
+  row_end e = record { is = λ rest. sym (rw e at (a.is rest)); ended = a.ended; small = tt }
 
   module _ (c : Class) (ds : List Class) (split : cs ≡ c ∷ ds) where
-    from_here : (rest : List Place) → resumed t x j (place d c ∷ (map (place d) ds ++ rest)) ≡ scan t x (count t - i) i (ps ++ rest)
+    from_here : (rest : List Place) → scan t x (count t - j) j (place (65 - left) c ∷ (map (place (65 - left)) ds ++ rest)) ≡ scan t x (count t - i) i (ps ++ rest)
     from_here rest = rw split at (a.is rest)
 
     -- the next place is where the walk stops
-    module _ (v : ℕ) (stop : refused ≤ v) (back : i ≤ v) where
-      stops : ((qs : List Place) → resumed t x j (place d c ∷ qs) ≡ answer_of v) → Walks t x i ps v
-      stops w =
-          record {
-            onward = back;
-            ended = λ g. absurd (omega arith);
-            is = λ rest. sym (resumed_refused t x v rest stop ∙ sym (w (map (place d) ds ++ rest)) ∙ from_here rest);
-          }
+    stops : (e : Refusal) → Small e → ((qs : List Place) → scan t x (count t - j) j (place (65 - left) c ∷ qs) ≡ Err e) → Walks t x i ps (Err e)
+    stops e s w = record { is = λ rest. sym (from_here rest) ∙ w (map (place (65 - left)) ds ++ rest); ended = tt; small = s }
 
-    -- or it is filled, with all below it
-    module _ (l : j < refused) (v : ℕ) (w : Walks t x j (place d c ∷ []) v) where
-      pub row_next : Along t x i ps v (map (place d) ds)
-      row_next =
-          record {
-            onward = omega (arith, a.onward, w.onward);
-            ended = w.ended;
-            is = λ rest.
-                sym (w.is (map (place d) ds ++ rest))
-                ∙ sym (resumed_next t x j (place d c ∷ (map (place d) ds ++ rest)) l)
-                ∙ from_here rest;
-          }
+    -- in it is no record, or one with a fault; or one with none, and all below it come to w
+    module _ (r : Record) (re : r ≡ record_at t j) where
+      pub row_refused : count t < refused → (e : Refusal) → Err e ≡ met_at t x r j left c → Walks t x i ps (Err e)
+      row_refused few e h = stops e (met_small t x r j left c e (omega (arith, a.ended)) h) (met_stops t x r j left c re e h)
 
-      pub row_stops : refused ≤ v → Walks t x i ps v
-      row_stops h =
-          stops v h (omega (arith, a.onward, w.onward))
-          (λ qs. resumed_next t x j (place d c ∷ qs) l ∙ w.is qs ∙ resumed_refused t x v qs h)
+      module _ (z : Admitted ≡ met_at t x r j left c) (l : left ≤ 64) where
+        pub row_stops : (e : Refusal) → Walks t x (j + 1) (map (place (65 - (left - 1))) (holds c r)) (Err e) → Walks t x i ps (Err e)
+        row_stops e w = stops e w.small (down t x r j left c re z l (Err e) w).is
 
--- ---- a record in its place with no fault
-module _ (t x : List ℕ) (j left : ℕ) (c : Class) (r : Record) (v : ℕ) (m : Meets t x j left c r v) (z : v ≡ 0) where
-  pub there : j < count t
-  there = (m.passes z).0
-
-  pub met_fits : fits c r ≡ true
-  met_fits = fine_fits x r left c 0 (sym (m.passes z).1) refl
-
-  pub met_left : 1 ≤ left
-  met_left = fine_left x r left c 0 (sym (m.passes z).1) refl
-
--- in the next place of a row a record is refused, or it and all below it fill the place
-module _ (t x : List ℕ) (i : ℕ) (ps : List Place) (j left : ℕ) (cs : List Class) (a : Along t x i ps j (map (place (65 - left)) cs)) (c : Class) (ds : List Class) (split : cs ≡ c ∷ ds)
-    (r : Record) (v : ℕ) (m : Meets t x j left c r v) where
-  pub row_refused : i < refused → (v ≡ 0 → ⊥) → Walks t x i ps v
-  row_refused l z =
-      let refuses = m.refuses z in
-      stops t x i ps j (65 - left) cs a c ds split v refuses.0 (omega (arith, refuses.0)) refuses.1
-
-  pub row_filled : v ≡ 0 → count t < refused → left ≤ 64 → r ≡ record_at t j → (w : ℕ) → Walks t x (j + 1) (map (place (65 - (left - 1))) (holds c r)) w
-      → Along t x i ps w (map (place (65 - left)) ds)
-  row_filled z s l re w b =
-      let h = there t x j left c r v m z in
-      row_next t x i ps j (65 - left) cs a c ds split (omega arith) w
-      (down t x j left c r h re 0 (sym (m.passes z).1) refl l w b)
+        pub row_filled : (k : ℕ) → Walks t x (j + 1) (map (place (65 - (left - 1))) (holds c r)) (Ok k) → Along t x i ps k (map (place (65 - left)) ds)
+        row_filled k w =
+            let d = down t x r j left c re z l (Ok k) w in
+            record { ended = w.ended; is = λ rest. sym (d.is (map (place (65 - left)) ds ++ rest)) ∙ from_here rest }
 
 -- the first of n that are left, and the others; and that none is left
 module _ (p n : ℕ) where

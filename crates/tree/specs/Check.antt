@@ -1,14 +1,13 @@
 -- 01, section 3: what a tree and a text are answered by. "Order: 1, 2, then the records by index, and at each 3, 4, 5, 6; then 7."
 -- 02, vii and viii: in a mode with the switch on 9, "checked at each record after 5 and before 6", and in SQLite's edition 10, "after 9 and before 6".
-use Rattle.std.specs.Prelude.{ℕ, zero, suc, ◌+◌, ◌%◌, ◌≡◌, List, [], ◌∷◌, ◌++◌, map, Bool, true, false, not, cond, ◌&&◌, ◌||◌, leb, ltb, eqb, length, replicate}
+use Rattle.std.specs.Prelude.{ℕ, zero, suc, ◌+◌, ◌%◌, ◌≡◌, List, [], ◌∷◌, ◌++◌, map, Bool, true, false, not, cond, ◌&&◌, ◌||◌, leb, ltb, eqb, length, replicate, Result, Ok, Err}
 use Rattle.laws.specs.First.{first}
 use Rattle.mode.specs.Options.{is_sqlite, plain}
 use Rattle.mode.specs.declared.Mode.{Mode}
 use Rattle.source.specs.Source.{ends_inside}
 use Rattle.rowid.specs.Rowid.{names}
 use Rattle.utf8.specs.Rfc3629 as utf8
-use Rattle.utf8.specs.Rfc3629.{Encoded, boundary}
-use Rattle.utf8.specs.declared.Encoding.{Encoding}
+use Rattle.utf8.specs.Rfc3629.{Encoding, Encoded, boundary}
 use Rattle.spelling.specs.Spelling.{known}
 use Rattle.record.specs.Record.{part, record_at, count, mark_ok}
 use Rattle.record.specs.declared.Record.{Record}
@@ -16,8 +15,15 @@ use Rattle.grammar.specs.Kind.{LIST, TOKEN, RUN, TEXT, NUMBER}
 use Rattle.grammar.specs.Shape.{Class, one, list, one_or, small, check_source, without_rowid, ruled}
 use Rattle.grammar.specs.Grammar.{shape, root}
 use Rattle.grammar.specs.Slots.{slots_of, flags_below, allowed, elements}
-use Rattle.tree.specs.declared.Answer.{Answer}
-use Rattle.tree.specs.declared.Answer.TheVariants.{Admitted, Malformed, TooLong, Broken, Mark, Misfit, Outside, Unclosed, NotRowid, Deep, Ends}
+use Rattle.tree.specs.declared.Refusal.{Refusal}
+use Rattle.tree.specs.declared.Refusal.TheVariants.{Malformed, TooLong, Broken, Mark, Misfit, Outside, Unclosed, NotRowid, Deep, Ends}
+
+-- what a tree and a text come to: they are admitted, or a refusal
+abbrev pub Answer : Type 0
+Answer = Result (Unit {0}) Refusal
+
+abbrev pub Admitted : Answer
+Admitted = Ok tt
 
 -- a place that a record must stand in: what may stand there, and how deep it is, the root being 1
 pub record Place : Type 0 where
@@ -72,7 +78,7 @@ swallows x (list c) r = false
 swallows x (one_or ks c) r = false
 swallows x small r = false
 
--- "a without_rowid_lem text accepted only if its two parts are WITHOUT and ROWID" (02, viii)
+-- "a without-rowid text accepted only if its two parts are WITHOUT and ROWID" (02, viii)
 unfoldable pub misnames : List ℕ → Class → Record → Bool
 misnames x (ruled without_rowid) r = eqb r.kind TEXT && not (names (part x r.start r.len))
 misnames x (ruled check_source) r = false
@@ -87,20 +93,20 @@ deepest = 64
 -- at each record 3, 4, 5, with the switch on 9, in SQLite's edition 10, and 6
 unfoldable pub faults_in : Mode → List ℕ → Record → ℕ → Place → List (Bool × Answer)
 faults_in m x r i p =
-    (not (mark_ok r), Mark i)
-    ∷ (not (fits p.class r), Misfit i)
-    ∷ (not (inside x r), Outside i)
-    ∷ (m.strict && swallows x p.class r, Unclosed i)
-    ∷ (is_sqlite m.edition && misnames x p.class r, NotRowid i)
-    ∷ (ltb deepest p.depth, Deep i)
+    (not (mark_ok r), Err (Mark i))
+    ∷ (not (fits p.class r), Err (Misfit i))
+    ∷ (not (inside x r), Err (Outside i))
+    ∷ (m.strict && swallows x p.class r, Err (Unclosed i))
+    ∷ (is_sqlite m.edition && misnames x p.class r, Err (NotRowid i))
+    ∷ (ltb deepest p.depth, Err (Deep i))
     ∷ []
 
 -- the n records from index i on, which must fill these places, in order: "children follow their parent at once".
 -- 7: "a needed record is past the end, or records remain after the root"
 unfoldable pub scan_in : Mode → List ℕ → List ℕ → ℕ → ℕ → List Place → Answer
 scan_in m t x zero i [] = Admitted
-scan_in m t x zero i (p ∷ ps) = Ends i
-scan_in m t x (suc n) i [] = Ends i
+scan_in m t x zero i (p ∷ ps) = Err (Ends i)
+scan_in m t x (suc n) i [] = Err (Ends i)
 scan_in m t x (suc n) i (p ∷ ps) =
     first (faults_in m x (record_at t i) i p) (scan_in m t x n (i + 1) (map (place (p.depth + 1)) (holds p.class (record_at t i)) ++ ps))
 
@@ -111,12 +117,17 @@ longest = 65536
 unfoldable pub malformed : List ℕ → Bool
 malformed t = eqb (length t) 0 || (ltb longest (length t) || not (eqb (length t % 16) 0))
 
+-- "not UTF-8"
+abbrev pub or_broken : Encoding → Answer → Answer
+or_broken (Ok u) a = a
+or_broken (Err b) a = Err (Broken b)
+
 -- the answer; e is what the encoding check says of the text
 unfoldable pub answer_in : Mode → Encoding → List ℕ → List ℕ → Answer
 answer_in m e t x =
     first
-    ((malformed t, Malformed) ∷ (ltb longest (length x), TooLong) ∷ (not (eqb (utf8.number e) 0), Broken e) ∷ [])
-    (scan_in m t x (count t) 0 (place 1 root ∷ []))
+    ((malformed t, Err Malformed) ∷ (ltb longest (length x), Err TooLong) ∷ [])
+    (or_broken e (scan_in m t x (count t) 0 (place 1 root ∷ [])))
 
 pub record ChecksIn (m : Mode) (t x : List ℕ) (answer : Answer) : Type 0 where
   pub encoding : Encoding
@@ -138,27 +149,27 @@ Checks = ChecksIn plain
 
 -- the number and the place of each answer
 abbrev pub number_of : Answer → ℕ
-number_of Admitted = 0
-number_of Malformed = 1
-number_of TooLong = 2
-number_of (Broken e) = utf8.number e
-number_of (Mark i) = 3
-number_of (Misfit i) = 4
-number_of (Outside i) = 5
-number_of (Unclosed i) = 9
-number_of (NotRowid i) = 10
-number_of (Deep i) = 6
-number_of (Ends i) = 7
+number_of (Ok u) = 0
+number_of (Err Malformed) = 1
+number_of (Err TooLong) = 2
+number_of (Err (Broken b)) = utf8.number (Err b)
+number_of (Err (Mark i)) = 3
+number_of (Err (Misfit i)) = 4
+number_of (Err (Outside i)) = 5
+number_of (Err (Unclosed i)) = 9
+number_of (Err (NotRowid i)) = 10
+number_of (Err (Deep i)) = 6
+number_of (Err (Ends i)) = 7
 
 abbrev pub place_of : Answer → ℕ
-place_of Admitted = 0
-place_of Malformed = 0
-place_of TooLong = longest
-place_of (Broken e) = utf8.place e
-place_of (Mark i) = i
-place_of (Misfit i) = i
-place_of (Outside i) = i
-place_of (Unclosed i) = i
-place_of (NotRowid i) = i
-place_of (Deep i) = i
-place_of (Ends i) = i
+place_of (Ok u) = 0
+place_of (Err Malformed) = 0
+place_of (Err TooLong) = longest
+place_of (Err (Broken b)) = utf8.place (Err b)
+place_of (Err (Mark i)) = i
+place_of (Err (Misfit i)) = i
+place_of (Err (Outside i)) = i
+place_of (Err (Unclosed i)) = i
+place_of (Err (NotRowid i)) = i
+place_of (Err (Deep i)) = i
+place_of (Err (Ends i)) = i

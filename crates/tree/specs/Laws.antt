@@ -1,12 +1,12 @@
 -- Laws of the check of one record: what each way through the tests of a record comes to.
-use Rattle.std.specs.Prelude.{ℕ, ◌+◌, ◌/◌, ◌%◌, ◌≤◌, ◌<◌, ◌≡◌, List, [], ◌∷◌, Bool, not, cond, ◌&&◌, ◌||◌, leb, ltb, eqb, length, replicate}
+use Rattle.std.specs.Prelude.{ℕ, ◌+◌, ◌/◌, ◌%◌, ◌≤◌, ◌<◌, ◌≡◌, List, [], ◌∷◌, Bool, not, cond, ◌&&◌, ◌||◌, leb, ltb, eqb, length, replicate, Err}
 use Rattle.std.proofs.Common.{arith, ◌∙◌, ap, sym}
 use Rattle.std.proofs.Math.Path.{refl}
 use Rattle.std.proofs.Math.Bool.{true, false, or-false, or-true}
 use Rattle.std.specs.Bool.{beq}
 use Rattle.std.proofs.lemmas.Bool.{false≢true}
 use Rattle.std.proofs.lemmas.List.{length-replicate}
-use borrow.Author.Tests.{eq-eqb, ne_eqb, eqb-true, eqb-false, lt-leb, le-leb, lt-ltb, le-ltb, not-true, not-false}
+use borrow.Author.Tests.{eq-eqb, ne_eqb, eqb-true, eqb-false, lt-leb, le-leb, not-true, not-false}
 use Rattle.laws.specs.Below.{below, at}
 use Rattle.laws.specs.First.{first}
 use Rattle.laws.specs.Tests.{and_left, and_right}
@@ -22,9 +22,10 @@ use Rattle.grammar.specs.Slots.{slots_of, flags_below, allowed, elements}
 use Rattle.grammar.specs.Classes.{classes, classes_held, class_at, token_at, token_is, small_at}
 use Rattle.grammar.specs.Packed.{kinds_held, rule_of}
 use Rattle.grammar.specs.Laws.{allowed_held, no_flags_fit, rule_flags, rule_slots}
-use Rattle.tree.specs.Check.{holds, flags_fit, has_part, fields_fit, range_fits, fits, inside}
-use Rattle.tree.specs.declared.Answer.TheVariants.{Mark, Misfit, Outside, Deep, Ends}
-use Rattle.tree.specs.Walk.{refused, refuse, past_at, answer_of, zeros, kind_fits, part_inside, used_fault, fault_of}
+use Rattle.tree.specs.Check.{Answer, Admitted, holds, flags_fit, has_part, fields_fit, range_fits, fits, inside}
+use Rattle.tree.specs.declared.Refusal.{Refusal}
+use Rattle.tree.specs.declared.Refusal.TheVariants.{Mark, Misfit, Outside, Deep}
+use Rattle.tree.specs.Walk.{zeros, kind_fits, part_inside, used_fault, fault_of}
 
 -- ---- only one place is narrow
 narrow : Class → Bool
@@ -233,8 +234,8 @@ zeros_range (list c) r s l = refl
 zeros_range (one_or ks c) r s l = refl
 zeros_range (ruled u) r s l = refl
 
-module _ (x : List ℕ) (c : Class) (r : Record) where
-  pub all_zero : boundary x 0 ≡ true → zeros r ≡ true → 0 ≡ used_fault x c r
+module _ (x : List ℕ) (c : Class) (r : Record) (i : ℕ) where
+  pub all_zero : boundary x 0 ≡ true → zeros r ≡ true → Admitted ≡ used_fault x c r i
   unfolding used_fault zeros inside
   all_zero b z =
       let s = eqb-true r.start 0 (and_left (eqb r.start 0) (eqb r.len 0) z) in
@@ -242,26 +243,26 @@ module _ (x : List ℕ) (c : Class) (r : Record) where
       rw (← zeros_fit r z, zeros_range c r s l, s, l, b, le-leb 0 (length x) (omega arith), or-true)
 
   module _ (d : Bool) (de : d ≡ fields_fit r) where
-    pub fields_off : not d ≡ true → 4 ≡ used_fault x c r
+    pub fields_off : not d ≡ true → Err (Misfit i) ≡ used_fault x c r i
     unfolding used_fault
     fields_off z = rw (← de, not-true d z)
 
     module _ (dz : not d ≡ false) (g : Bool) (ge : g ≡ range_fits c r) where
-      pub range_off : not g ≡ true → 4 ≡ used_fault x c r
+      pub range_off : not g ≡ true → Err (Misfit i) ≡ used_fault x c r i
       unfolding used_fault
       range_off z = rw (← de, not-false d dz, ← ge, z)
 
       module _ (gz : not g ≡ false) (n : Bool) (ne : n ≡ inside x r) where
-        pub part_off : not n ≡ true → 5 ≡ used_fault x c r
+        pub part_off : not n ≡ true → Err (Outside i) ≡ used_fault x c r i
         unfolding used_fault
         part_off z = rw (← de, not-false d dz, ← ge, gz, ← ne, z)
 
-        pub sound : not n ≡ false → 0 ≡ used_fault x c r
+        pub sound : not n ≡ false → Admitted ≡ used_fault x c r i
         unfolding used_fault
         sound z = rw (← de, not-false d dz, ← ge, gz, ← ne, z)
 
 -- a TOKEN with no value uses no bytes, and one with a value has a part
-module _ (x : List ℕ) (r : Record) (k : r.kind ≡ TOKEN) where
+module _ (x : List ℕ) (r : Record) (i : ℕ) (k : r.kind ≡ TOKEN) where
   module _ (h : r.flags < 0x8000) where
     no_value : has_part r ≡ false
     no_value = sym (token_part r k) ∙ lt-leb 0x8000 r.flags h
@@ -270,11 +271,11 @@ module _ (x : List ℕ) (r : Record) (k : r.kind ≡ TOKEN) where
     unfolding fields_fit zeros
     bare_fields = rw (no_value, k)
 
-    pub bare_token : (z : Bool) → z ≡ zeros r → z ≡ true → 0 ≡ used_fault x (class_at token_at) r
+    pub bare_token : (z : Bool) → z ≡ zeros r → z ≡ true → Admitted ≡ used_fault x (class_at token_at) r i
     unfolding used_fault range_fits
     bare_token z ze t = rw (token_is, bare_fields, ← ze, t, ← no_part r x false (sym no_value) refl)
 
-    pub stray_bytes : (z : Bool) → z ≡ zeros r → z ≡ false → 4 ≡ used_fault x (class_at token_at) r
+    pub stray_bytes : (z : Bool) → z ≡ zeros r → z ≡ false → Err (Misfit i) ≡ used_fault x (class_at token_at) r i
     unfolding used_fault range_fits
     stray_bytes z ze t = rw (token_is, bare_fields, ← ze, t)
 
@@ -286,15 +287,15 @@ module _ (x : List ℕ) (r : Record) (k : r.kind ≡ TOKEN) where
     unfolding fields_fit
     value_fields = rw a_value
 
-    pub value_off : not d ≡ true → 5 ≡ used_fault x (class_at token_at) r
+    pub value_off : not d ≡ true → Err (Outside i) ≡ used_fault x (class_at token_at) r i
     unfolding used_fault range_fits
     value_off z = rw (token_is, value_fields, ← with_part r x true (sym a_value) refl d de, z)
 
-    pub value_sound : not d ≡ false → 0 ≡ used_fault x (class_at token_at) r
+    pub value_sound : not d ≡ false → Admitted ≡ used_fault x (class_at token_at) r i
     unfolding used_fault range_fits
     value_sound z = rw (token_is, value_fields, ← with_part r x true (sym a_value) refl d de, z)
 
--- ---- the number of the first fault
+-- ---- the first fault
 regroup : (a k f g : Bool) → (a && (k && (f && g))) ≡ ((a && (k && f)) && g)
 regroup true true f g = refl
 regroup true false f g = refl
@@ -305,73 +306,48 @@ unfolding fits kind_fits
 fits_apart c r = regroup (allowed c r.kind) (eqb r.kids (length (holds c r))) (flags_fit r) (fields_fit r && range_fits c r)
 
 -- two tests, and a third behind them
-module _ (d : Bool) where
-  either : (g n : Bool) (u : ℕ) → u ≡ first ((not g, 4) ∷ (not n, 5) ∷ []) 0 → (u ≡ 0 → ⊥) → u ≡ first ((not g, 4) ∷ (not n, 5) ∷ (d, 6) ∷ []) 0
-  either true true u e h = absurd (h e)
-  either true false u e h = e
-  either false n u e h = e
+module _ (d : Bool) (i : ℕ) where
+  abbrev two : Bool → Bool → Answer
+  two g n = first ((not g, Err (Misfit i)) ∷ (not n, Err (Outside i)) ∷ []) Admitted
 
-  neither : (g n : Bool) → ◌≡◌ {A = ℕ} 0 (first ((not g, 4) ∷ (not n, 5) ∷ []) 0) → ◌≡◌ {A = ℕ} (cond d 6 0) (first ((not g, 4) ∷ (not n, 5) ∷ (d, 6) ∷ []) 0)
-  neither true true e = refl
-  neither true false e = absurd (omega arith)
-  neither false n e = absurd (omega arith)
+  abbrev three : Bool → Bool → Answer
+  three g n = first ((not g, Err (Misfit i)) ∷ (not n, Err (Outside i)) ∷ (d, Err (Deep i)) ∷ []) Admitted
 
-module _ (x : List ℕ) (r : Record) (left : ℕ) (c : Class) where
-  pub bad_mark : (m : Bool) → m ≡ mark_ok r → not m ≡ true → 3 ≡ fault_of x r left (fits c r)
+  either : (g n : Bool) (e : Refusal) → Err e ≡ two g n → Err e ≡ three g n
+  either true true e h = absurd (cc)
+  either true false e h = h
+  either false n e h = h
+
+  neither : (g n : Bool) → Admitted ≡ two g n → cond d (Err (Deep i)) Admitted ≡ three g n
+  neither true true h = refl
+  neither true false h = absurd (cc)
+  neither false n h = absurd (cc)
+
+module _ (x : List ℕ) (r : Record) (i left : ℕ) (c : Class) where
+  pub bad_mark : (m : Bool) → m ≡ mark_ok r → not m ≡ true → Err (Mark i) ≡ fault_of x r i left (fits c r)
   unfolding fault_of
   bad_mark m me h = rw (← me, not-true m h)
 
   module _ (m : Bool) (me : m ≡ mark_ok r) (mz : not m ≡ false) (k : Bool) (ke : k ≡ kind_fits c r) where
-    pub misfit : not k ≡ true → 4 ≡ fault_of x r left (fits c r)
+    pub misfit : not k ≡ true → Err (Misfit i) ≡ fault_of x r i left (fits c r)
     unfolding fault_of
     misfit h = rw (← me, mz, fits_apart c r, ← ke, not-true k h)
 
-    module _ (kz : not k ≡ false) (u : ℕ) (ue : u ≡ used_fault x c r) where
+    module _ (kz : not k ≡ false) where
       fits_now : fits c r ≡ (fields_fit r && range_fits c r)
       fits_now = rw (fits_apart c r, ← ke, not-false k kz)
 
-      pub used_off : (u ≡ 0 → ⊥) → u ≡ fault_of x r left (fits c r)
+      pub used_off : (e : Refusal) → Err e ≡ used_fault x c r i → Err e ≡ fault_of x r i left (fits c r)
       unfolding fault_of used_fault
-      used_off h = rw (← me, mz, fits_now) (either (eqb left 0) (fields_fit r && range_fits c r) (inside x r) u ue h)
+      used_off e h = rw (← me, mz, fits_now) (either (eqb left 0) i (fields_fit r && range_fits c r) (inside x r) e h)
 
-      module _ (z : u ≡ 0) where
-        none_used : cond (eqb left 0) 6 0 ≡ fault_of x r left (fits c r)
+      module _ (z : Admitted ≡ used_fault x c r i) where
+        none_used : cond (eqb left 0) (Err (Deep i)) Admitted ≡ fault_of x r i left (fits c r)
         unfolding fault_of used_fault
-        none_used = rw (← me, mz, fits_now) (neither (eqb left 0) (fields_fit r && range_fits c r) (inside x r) (sym z ∙ ue))
+        none_used = rw (← me, mz, fits_now) (neither (eqb left 0) i (fields_fit r && range_fits c r) (inside x r) z)
 
-        pub deep : left ≡ 0 → 6 ≡ fault_of x r left (fits c r)
+        pub deep : left ≡ 0 → Err (Deep i) ≡ fault_of x r i left (fits c r)
         deep h = rw (eq-eqb left 0 h) at none_used
 
-        pub fine : (left ≡ 0 → ⊥) → 0 ≡ fault_of x r left (fits c r)
+        pub fine : (left ≡ 0 → ⊥) → Admitted ≡ fault_of x r i left (fits c r)
         fine h = rw (ne_eqb left 0 h) at none_used
-
--- ---- behind the last record
-pub past_refused : (i : ℕ) → refused ≤ i → i ≡ past_at i
-unfolding past_at
-past_refused i h = rw (le-ltb i refused h)
-
-pub past_ends : (i : ℕ) → i < refused → refuse 7 i ≡ past_at i
-unfolding past_at
-past_ends i h = rw (lt-ltb i refused h)
-
--- ---- the answer of a walk's number
-module _ (w : ℕ) where
-  pub is_mark_lem : w / refused ≡ 3 → Mark (w % refused) ≡ answer_of w
-  unfolding answer_of
-  is_mark_lem e = rw e
-
-  pub is_misfit : w / refused ≡ 4 → Misfit (w % refused) ≡ answer_of w
-  unfolding answer_of
-  is_misfit e = rw e
-
-  pub is_outside : w / refused ≡ 5 → Outside (w % refused) ≡ answer_of w
-  unfolding answer_of
-  is_outside e = rw e
-
-  pub is_deep : w / refused ≡ 6 → Deep (w % refused) ≡ answer_of w
-  unfolding answer_of
-  is_deep e = rw e
-
-  pub is_ends : (w / refused ≡ 3 → ⊥) → (w / refused ≡ 4 → ⊥) → (w / refused ≡ 5 → ⊥) → (w / refused ≡ 6 → ⊥) → Ends (w % refused) ≡ answer_of w
-  unfolding answer_of
-  is_ends a b c d = rw (ne_eqb (w / refused) 3 a, ne_eqb (w / refused) 4 b, ne_eqb (w / refused) 5 c, ne_eqb (w / refused) 6 d)

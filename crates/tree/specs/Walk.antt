@@ -1,46 +1,54 @@
 -- What a walk of the tree comes to, against the scan by index, and what is asked of one record on the way.
-use Prim.Native.Nat.{ℕ, suc, ◌+◌, ◌-◌, ◌*◌, ◌/◌, ◌%◌, ◌≤◌, ◌<◌}
-use native.Mathlib.Omega.{arith}
-use Rattle.std.specs.Prelude.{◌≡◌, List, [], ◌∷◌, ◌++◌, map, Bool, not, cond, ◌&&◌, eqb, leb, length}
-use Rattle.std.proofs.Math.Path.{refl, ap, sym}
-use Rattle.std.proofs.Common.{◌∙◌}
-use Rattle.std.proofs.Math.Bool.{true, false}
-use Rattle.std.proofs.Math.Dec.{ltb}
-use borrow.Author.Tests.{eqb-true, eqb-false, lt-ltb, le-ltb, ltb-true, ltb-false, not-false}
+use Rattle.std.specs.Prelude.{ℕ, ◌+◌, ◌-◌, ◌/◌, ◌%◌, ◌≤◌, ◌<◌, ◌≡◌, List, [], ◌∷◌, ◌++◌, Bool, not, cond, ◌&&◌, eqb, leb, ltb, length, Result, Ok, Err, IfOk, IfErr}
 use Rattle.laws.specs.First.{first}
 use Rattle.utf8.specs.Rfc3629.{boundary}
-use Rattle.record.specs.Record.{record_at, count, mark_ok}
+use Rattle.record.specs.Record.{count, mark_ok}
 use Rattle.record.specs.declared.Record.{Record}
 use Rattle.grammar.specs.Shape.{Class}
 use Rattle.grammar.specs.Slots.{allowed}
-use Rattle.tree.specs.declared.Answer.{Answer}
-use Rattle.tree.specs.declared.Answer.TheVariants.{Mark, Misfit, Outside, Deep, Ends}
-use Rattle.tree.specs.Check.{Place, place, holds, flags_fit, fields_fit, range_fits, fits, inside, deepest, faults_in, faults, scan_in, scan}
+use Rattle.tree.specs.declared.Refusal.{Refusal}
+use Rattle.tree.specs.declared.Refusal.TheVariants.{Malformed, TooLong, Broken, Mark, Misfit, Outside, Unclosed, NotRowid, Deep, Ends}
+use Rattle.tree.specs.Check.{Answer, Place, holds, flags_fit, fields_fit, range_fits, fits, inside, scan}
 
--- a walk comes to a number: the index behind it or, from here on, a refusal, its number times this and its index
+-- more than any index
 abbrev pub refused : ℕ
 refused = 0x100000000
 
-abbrev pub refuse : ℕ → ℕ → ℕ
-refuse n i = n * refused + i
+-- what of a walk can be one number: an index, or a refusal of a record
+abbrev pub Small : Refusal → Type 0
+Small (Mark i) = i < refused
+Small (Misfit i) = i < refused
+Small (Outside i) = i < refused
+Small (Deep i) = i < refused
+Small (Ends i) = i < refused
+Small Malformed = ⊥
+Small TooLong = ⊥
+Small (Broken b) = ⊥
+Small (Unclosed i) = ⊥
+Small (NotRowid i) = ⊥
 
--- the answer of a number and an index
-abbrev pub refusal_at : ℕ → ℕ → Answer
+abbrev pub Crosses : Result ℕ Refusal → Type 0
+Crosses (Ok j) = j < refused
+Crosses (Err e) = Small e
+
+-- the refusal of a number and an index, and what a number stands for
+abbrev pub refusal_at : ℕ → ℕ → Refusal
 refusal_at n i = first ((eqb n 3, Mark i) ∷ (eqb n 4, Misfit i) ∷ (eqb n 5, Outside i) ∷ (eqb n 6, Deep i) ∷ []) (Ends i)
 
-unfoldable pub answer_of : ℕ → Answer
-answer_of w = refusal_at (w / refused) (w % refused)
+unfoldable pub unpacked : ℕ → Result ℕ Refusal
+unpacked w = cond (ltb w refused) (Ok w) (Err (refusal_at (w / refused) (w % refused)))
 
--- how the scan goes on behind a walk
-unfoldable pub resumed : List ℕ → List ℕ → ℕ → List Place → Answer
-resumed t x w ps = cond (ltb w refused) (scan t x (count t - w) w ps) (answer_of w)
+-- how the scan goes on behind a walk, which comes to the index behind it or to a refusal
+abbrev pub resumed : List ℕ → List ℕ → Result ℕ Refusal → List Place → Answer
+resumed t x (Ok j) ps = scan t x (count t - j) j ps
+resumed t x (Err a) ps = Err a
 
 -- w is what the records from index i on come to that must fill the places ps, whatever places follow; an index behind them is no
--- further than the tree's end, and no walk goes back
-pub record Walks (t x : List ℕ) (i : ℕ) (ps : List Place) (w : ℕ) : Type 0 where
-  pub onward : i ≤ w
+-- further than the tree's end
+pub record Walks (t x : List ℕ) (i : ℕ) (ps : List Place) (w : Result ℕ Refusal) : Type 0 where
   pub is : (rest : List Place) → scan t x (count t - i) i (ps ++ rest) ≡ resumed t x w rest
-  pub ended : w < refused → w ≤ count t
+  pub ended : IfOk w (λ j. j ≤ count t)
+  pub small : IfErr w Small
 
 -- ---- one record: its tests in the order in which they are made
 -- bytes 8-15 are zero
@@ -55,19 +63,17 @@ kind_fits c r = allowed c r.kind && (eqb r.kids (length (holds c r)) && flags_fi
 unfoldable pub part_inside : List ℕ → Record → Bool
 part_inside x r = leb (r.start + r.len) (length x) && (boundary x r.start && boundary x (r.start + r.len))
 
--- the number of the fault in bytes 8-15, or 0
-unfoldable pub used_fault : List ℕ → Class → Record → ℕ
-used_fault x c r = first ((not (fields_fit r && range_fits c r), 4) ∷ (not (inside x r), 5) ∷ []) 0
+-- the fault in bytes 8-15 of the record at an index
+unfoldable pub used_fault : List ℕ → Class → Record → ℕ → Answer
+used_fault x c r i = first ((not (fields_fit r && range_fits c r), Err (Misfit i)) ∷ (not (inside x r), Err (Outside i)) ∷ []) (Ok tt)
 
--- the number of a record's first fault, with left records of depth to go, where fit tells whether it fits its place; or 0
-unfoldable pub fault_of : List ℕ → Record → ℕ → Bool → ℕ
-fault_of x r left fit = first ((not (mark_ok r), 3) ∷ (not fit, 4) ∷ (not (inside x r), 5) ∷ (eqb left 0, 6) ∷ []) 0
+-- a record's first fault, with left records of depth to go, where fit tells whether it fits its place
+unfoldable pub fault_of : List ℕ → Record → ℕ → ℕ → Bool → Answer
+fault_of x r i left fit =
+    first
+    ((not (mark_ok r), Err (Mark i)) ∷ (not fit, Err (Misfit i)) ∷ (not (inside x r), Err (Outside i)) ∷ (eqb left 0, Err (Deep i)) ∷ [])
+    (Ok tt)
 
--- where there is no record at i; an index that is a refusal stays one
-unfoldable pub past_at : ℕ → ℕ
-past_at i = cond (ltb i refused) (refuse 7 i) i
-
--- w is the refusal that the record r at index i meets in its place, whatever places follow; or it is 0, and r has no fault
-pub record Meets (t x : List ℕ) (i left : ℕ) (c : Class) (r : Record) (w : ℕ) : Type 0 where
-  pub refuses : (w ≡ 0 → ⊥) → (refused ≤ w) × ((ps : List Place) → resumed t x i (place (65 - left) c ∷ ps) ≡ answer_of w)
-  pub passes : w ≡ 0 → (i < count t) × (fault_of x r left (fits c r) ≡ 0)
+-- what a walk meets in a place: no record, or the record r, which has a fault or none
+unfoldable pub met_at : List ℕ → List ℕ → Record → ℕ → ℕ → Class → Answer
+met_at t x r i left c = cond (leb (count t) i) (Err (Ends i)) (fault_of x r i left (fits c r))

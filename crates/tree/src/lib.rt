@@ -1,7 +1,7 @@
 // The check of a flat tree and its text (01, sections 2 and 3).
 //
-// `check_row` calls itself on child records, with the remaining depth falling from 64. What the walk of records comes to is one
-// number: the index behind them, or from REFUSED on a refusal.
+// `check_row` calls itself on child records, with the remaining depth falling from 64. What the walk of records comes to is the
+// index behind them, or a refusal.
 #![tactic(auto)]
 
 ghost use Rattle.std.specs.Prelude.{◌≡◌, true, [], ◌∷◌, map, ◌+◌, ◌-◌, ◌%◌, ◌≤◌, ◌<◌, replicate};
@@ -12,15 +12,16 @@ ghost use Rattle.grammar.specs.Kind.{TOKEN as TOKEN'};
 ghost use Rattle.grammar.specs.Grammar.{root};
 ghost use Rattle.grammar.specs.Classes.{classes_held, class_at, token_at};
 ghost use Rattle.grammar.specs.Packed.{kinds_held, rule_of, along, all_held};
+ghost use Rattle.tree.specs.declared.Refusal.TheVariants.{Broken as Ill};
 ghost use Rattle.tree.specs.Check.{place as at, flags_fit as flags_fit', has_part as has_part', fields_fit as fields_fit', range_fits as range_fits', fits, inside as inside', scan, malformed as malformed', answer_to, Checks, number_of, place_of};
-ghost use Rattle.tree.specs.Walk.{refused, refuse, answer_of, Walks, zeros as zeros', kind_fits as kind_fits', part_inside as part_inside', used_fault as used_fault', fault_of, past_at, Meets};
+ghost use Rattle.tree.specs.Walk.{refused, Crosses, unpacked as unpacked', Walks, zeros as zeros', kind_fits as kind_fits', part_inside as part_inside', used_fault as used_fault', fault_of, met_at};
 ghost use Rattle.tree.specs.Laws.{Counts};
 ghost use Rattle.tree.specs.Told.{taken};
 
 use grammar::kind::{LIST, NUMBER, RUN, TEXT, TOKEN};
 use grammar::{ROOT, SLOTS, SMALL};
 use record::Record;
-use utf8::Encoding;
+use utf8::{Broken, Encoding};
 
 // The root is 1 deep, and a record may be this deep.
 const DEEPEST: usize = 64;
@@ -53,30 +54,50 @@ const DEEP: u64 = 6;
 
 const ENDS: u64 = 7;
 
-// A refusal of the walk is its number times this, and the index of its record; an index is below it.
+// More than any index.
 const REFUSED: u64 = 0x1_0000_0000;
 
-#[derive(Clone, Copy)]
-pub enum Answer {
-    Admitted,
-    // The tree is empty, over_long, or no row of whole records.
+// Why a tree and its text are not admitted.
+#[derive(Clone, Copy, PartialEq, Eq)]
+pub enum Refusal {
+    // The tree is empty, over-long, or no row of whole records.
     Malformed,
-    // The text is over_long.
+    // The text is over-long.
     TooLong,
     // The text is not UTF-8.
-    Broken(Encoding),
+    Broken(Broken),
     // At a record: a wrong mark; what may not stand there; a text part outside or in a character.
     Mark(usize),
     Misfit(usize),
     Outside(usize),
     // The same in a mode: a CHECK's source that ends inside a comment or a quote (02, vii).
     Unclosed(usize),
-    // The same: a without_rowid_lem text that does not say WITHOUT ROWID (02, viii).
+    // The same: a without-rowid text that does not say WITHOUT ROWID (02, viii).
     NotRowid(usize),
     // Again at a record: too deep.
     Deep(usize),
     // A needed record is past the end, or records are left over.
     Ends(usize),
+}
+
+impl From<Broken> for Refusal {
+    ghost from_gives = { λ b r. r ≡ Ill b };
+
+    fn from(b: Broken) -> Refusal {
+        Refusal::Broken(b)
+    }
+}
+
+// What the check comes to: they are admitted, or a refusal.
+pub type Answer = Result<(), Refusal>;
+
+// A tree and its text as they are lent: the tree has few records, and the text begins between characters.
+#[derive(Clone, Copy)]
+struct Lent<'a> {
+    tree: &'a [u8],
+    text: &'a [u8],
+    ghost few: { count' tree.now < refused },
+    ghost begun: { boundary' text.now 0 ≡ true },
 }
 
 // Whether a record begins with its mark.
@@ -191,114 +212,102 @@ fn token_fits(r: Record) -> bool
 }
 
 // Whether a text part lies inside the text and between characters.
-fn part_inside(text: &[u8], r: Record) -> bool
-    ensures { result ≡ part_inside' text.now r }
+fn part_inside(on: &Lent, r: Record) -> bool
+    ensures { result ≡ part_inside' on.now.text.now r }
 {
     let start = r.start as usize;
     let end = start + r.len as usize;
-    if text.len() < end {
+    if on.text.len() < end {
         return false;
     }
-    if !utf8::boundary(text, start) {
+    if !utf8::boundary(on.text, start) {
         return false;
     }
-    utf8::boundary(text, end)
+    utf8::boundary(on.text, end)
 }
 
 // Whether a record's text part, where it has one, lies so.
-fn inside(text: &[u8], r: Record) -> bool
-    ensures { result ≡ inside' text.now r }
+fn inside(on: &Lent, r: Record) -> bool
+    ensures { result ≡ inside' on.now.text.now r }
 {
     if has_part(r) {
-        return part_inside(text, r);
+        return part_inside(on, r);
     }
     true
 }
 
-// The number of the fault in bytes 8-15 of a record in a place, or 0. Most are zero, which is right everywhere.
-fn used_fault(text: &[u8], place: u8, r: Record) -> u64
-    requires { (place < classes_held) × (boundary' text.now 0 ≡ true) }
-    ensures { result ≡ used_fault' text.now (class_at place) r }
+// The fault in bytes 8-15 of the record at an index, in a place. Most are zero, which is right everywhere.
+fn used_fault(on: &Lent, place: u8, r: Record, index: usize) -> Answer
+    requires { place < classes_held }
+    ensures { result ≡ used_fault' on.now.text.now (class_at place) r index }
 {
     if zeros(r) {
-        return 0;
+        return Ok(());
     }
     if !fields_fit(r) {
-        return MISFIT;
+        return Err(Refusal::Misfit(index));
     }
     if !range_fits(place, r) {
-        return MISFIT;
+        return Err(Refusal::Misfit(index));
     }
-    if !inside(text, r) {
-        return OUTSIDE;
+    if !inside(on, r) {
+        return Err(Refusal::Outside(index));
     }
-    0
+    Ok(())
 }
 
 // The same for a TOKEN.
-fn token_used(text: &[u8], r: Record) -> u64
+fn token_used(on: &Lent, r: Record, index: usize) -> Answer
     requires { r.kind ≡ TOKEN' }
-    ensures { result ≡ used_fault' text.now (class_at token_at) r }
+    ensures { result ≡ used_fault' on.now.text.now (class_at token_at) r index }
 {
     if r.flags < PRESENT {
         if zeros(r) {
-            return 0;
+            return Ok(());
         }
-        return MISFIT;
+        return Err(Refusal::Misfit(index));
     }
-    if !part_inside(text, r) {
-        return OUTSIDE;
+    if !part_inside(on, r) {
+        return Err(Refusal::Outside(index));
     }
-    0
+    Ok(())
 }
 
-// The number of the first fault of a record in a place with this depth left, or 0.
-fn first_fault(text: &[u8], place: u8, left: usize, r: Record) -> u64
-    requires { (place < classes_held) × (boundary' text.now 0 ≡ true) }
-    ensures { result ≡ fault_of text.now r left (fits (class_at place) r) }
+// The first fault of the record at an index, in a place with this depth left. (That the place is one that there is stands in five contracts: a struct with
+// this invariant would be made in check_row alone, of a row's byte and by the same proof, and opened again in each of the five; it is no plainer.)
+fn first_fault(on: &Lent, place: u8, left: usize, r: Record, index: usize) -> Answer
+    requires { place < classes_held }
+    ensures { result ≡ fault_of on.now.text.now r index left (fits (class_at place) r) }
 {
     if !marked(r) {
-        return MARK;
+        return Err(Refusal::Mark(index));
     }
     if !kind_fits(place, r) {
-        return MISFIT;
+        return Err(Refusal::Misfit(index));
     }
-    let used = used_fault(text, place, r);
-    if used != 0 {
-        return used;
-    }
+    used_fault(on, place, r, index)?;
     if left == 0 {
-        return DEEP;
+        return Err(Refusal::Deep(index));
     }
-    0
+    Ok(())
 }
 
-// The same for a TOKEN of a RUN.
-fn token_fault(text: &[u8], left: usize, r: Record) -> u64
-    ensures { result ≡ fault_of text.now r left (fits (class_at token_at) r) }
+// The same for a TOKEN of a RUN. (One function for both would take both tests as closures, and its contract would say what each of them answers;
+// that is no plainer than four tests twice.)
+fn token_fault(on: &Lent, left: usize, r: Record, index: usize) -> Answer
+    ensures { result ≡ fault_of on.now.text.now r index left (fits (class_at token_at) r) }
 {
     if !marked(r) {
-        return MARK;
+        return Err(Refusal::Mark(index));
     }
     if !token_fits(r) {
-        return MISFIT;
+        return Err(Refusal::Misfit(index));
     }
-    let used = token_used(text, r);
-    if used != 0 {
-        return used;
-    }
+    token_used(on, r, index)?;
     if left == 0 {
-        return DEEP;
+        return Err(Refusal::Deep(index));
     }
-    0
-}
-
-// What a walk comes to that ends in a refusal at an index.
-fn refusal(number: u64, index: u64) -> u64
-    requires { (number < 16) × (index < refused) }
-    ensures { result ≡ refuse number index }
-{
-    number * REFUSED + index
+    Ok(())
 }
 
 // An answer's number in 01's table.
@@ -306,17 +315,17 @@ pub fn number(a: Answer) -> u64
     ensures { result ≡ number_of a }
 {
     match a {
-        Answer::Admitted => 0,
-        Answer::Malformed => MALFORMED,
-        Answer::TooLong => TOO_LONG,
-        Answer::Broken(e) => utf8::number(e),
-        Answer::Mark(_) => MARK,
-        Answer::Misfit(_) => MISFIT,
-        Answer::Outside(_) => OUTSIDE,
-        Answer::Unclosed(_) => UNCLOSED,
-        Answer::NotRowid(_) => NOT_ROWID,
-        Answer::Deep(_) => DEEP,
-        Answer::Ends(_) => ENDS,
+        Ok(()) => 0,
+        Err(Refusal::Malformed) => MALFORMED,
+        Err(Refusal::TooLong) => TOO_LONG,
+        Err(Refusal::Broken(b)) => utf8::number(Err(b)),
+        Err(Refusal::Mark(_)) => MARK,
+        Err(Refusal::Misfit(_)) => MISFIT,
+        Err(Refusal::Outside(_)) => OUTSIDE,
+        Err(Refusal::Unclosed(_)) => UNCLOSED,
+        Err(Refusal::NotRowid(_)) => NOT_ROWID,
+        Err(Refusal::Deep(_)) => DEEP,
+        Err(Refusal::Ends(_)) => ENDS,
     }
 }
 
@@ -325,98 +334,119 @@ pub fn place(a: Answer) -> usize
     ensures { result ≡ place_of a }
 {
     match a {
-        Answer::Admitted => 0,
-        Answer::Malformed => 0,
-        Answer::TooLong => LONGEST,
-        Answer::Broken(e) => utf8::place(e),
-        Answer::Mark(i) => i,
-        Answer::Misfit(i) => i,
-        Answer::Outside(i) => i,
-        Answer::Unclosed(i) => i,
-        Answer::NotRowid(i) => i,
-        Answer::Deep(i) => i,
-        Answer::Ends(i) => i,
+        Ok(()) => 0,
+        Err(Refusal::Malformed) => 0,
+        Err(Refusal::TooLong) => LONGEST,
+        Err(Refusal::Broken(b)) => utf8::place(Err(b)),
+        Err(Refusal::Mark(i)) => i,
+        Err(Refusal::Misfit(i)) => i,
+        Err(Refusal::Outside(i)) => i,
+        Err(Refusal::Unclosed(i)) => i,
+        Err(Refusal::NotRowid(i)) => i,
+        Err(Refusal::Deep(i)) => i,
+        Err(Refusal::Ends(i)) => i,
     }
+}
+
+// What a walk comes to, as one number: an index, or from REFUSED on a refusal, its number times this and its index.
+fn packed(w: Result<usize, Refusal>) -> u64
+    requires { Crosses w }
+    ensures { unpacked' result ≡ w }
+{
+    match w {
+        Ok(index) => index as u64,
+        Err(refusal) => number(Err(refusal)) * REFUSED + place(Err(refusal)) as u64,
+    }
+}
+
+// What a walk comes to that is this number.
+fn unpacked(w: u64) -> Result<usize, Refusal>
+    ensures { result ≡ unpacked' w }
+{
+    if w < REFUSED {
+        return Ok(w as usize);
+    }
+    let number = w / REFUSED;
+    let index = (w % REFUSED) as usize;
+    if number == MARK {
+        return Err(Refusal::Mark(index));
+    }
+    if number == MISFIT {
+        return Err(Refusal::Misfit(index));
+    }
+    if number == OUTSIDE {
+        return Err(Refusal::Outside(index));
+    }
+    if number == DEEP {
+        return Err(Refusal::Deep(index));
+    }
+    Err(Refusal::Ends(index))
 }
 
 // The TOKENs of a RUN, one behind the other: they have no children.
-fn check_tokens(tree: &[u8], text: &[u8], index: u64, left: usize, n: u16) -> u64
-    requires { (count' tree.now < refused) × ((index ≤ count' tree.now) × (left ≤ 64)) }
-    ensures { Walks tree.now text.now index (map (at (65 - left)) (replicate n (class_at token_at))) result }
+fn check_tokens(on: &Lent, index: usize, left: usize, n: u16) -> Result<usize, Refusal>
+    requires { (index ≤ count' on.now.tree.now) × (left ≤ 64) }
+    ensures { Walks on.now.tree.now on.now.text.now index (map (at (65 - left)) (replicate n (class_at token_at))) result }
 {
     let mut next = index;
-    let mut rest = n;
-    while 0 < rest {
-        if record::count(tree) as u64 <= next {
-            return refusal(ENDS, next);
+    for _token in 0..n {
+        if record::count(on.tree) <= next {
+            return Err(Refusal::Ends(next));
         }
-        let r = record::read(tree, next as usize);
-        let fault = token_fault(text, left, r);
-        if fault != 0 {
-            return refusal(fault, next);
-        }
+        token_fault(on, left, record::read(on.tree, next), next)?;
         next += 1;
-        rest -= 1;
     }
-    next
+    Ok(next)
 }
 
-// What a walk comes to that finds no record at an index; an index that is a refusal stays one.
-fn past(index: u64) -> u64
-    ensures { result ≡ past_at index }
+// Whether the record r at an index is refused, in a place with this depth left.
+fn refused_at(on: &Lent, index: usize, place: u8, left: usize, r: Record) -> Answer
+    requires { place < classes_held }
+    ensures { result ≡ met_at on.now.tree.now on.now.text.now r index left (class_at place) }
 {
-    if REFUSED <= index {
-        return index;
+    if record::count(on.tree) <= index {
+        return Err(Refusal::Ends(index));
     }
-    refusal(ENDS, index)
-}
-
-// What a walk comes to that is refused at the record r at an index, in a place with this depth left; or 0.
-fn refused_at(tree: &[u8], text: &[u8], index: u64, place: u8, left: usize, r: Record) -> u64
-    requires { (place < classes_held) × ((left ≤ 64) × ((r ≡ record_at tree.now index) × ((count' tree.now < refused) × (boundary' text.now 0 ≡ true)))) }
-    ensures { Meets tree.now text.now index left (class_at place) r result }
-{
-    if record::count(tree) as u64 <= index {
-        return past(index);
-    }
-    let fault = first_fault(text, place, left, r);
-    if fault != 0 {
-        return refusal(fault, index);
-    }
-    0
+    first_fault(on, place, left, r, index)
 }
 
 // The first n children of a row of places, one behind the other, and all below each.
-fn check_row(tree: &[u8], text: &[u8], index: u64, row: u64, left: usize, n: u16) -> u64
-    requires { (count' tree.now < refused) × ((boundary' text.now 0 ≡ true) × ((index ≤ count' tree.now) × ((left ≤ 64) × (all_held row n ≡ true)))) }
-    ensures { Walks tree.now text.now index (map (at (65 - left)) (along row n)) result }
+#[cycle(check_row)]
+fn check_row(on: &Lent, index: usize, row: u64, left: usize, n: u16) -> Result<usize, Refusal>
+    requires { (index ≤ count' on.now.tree.now) × ((left ≤ 64) × (all_held row n ≡ true)) }
+    ensures { Walks on.now.tree.now on.now.text.now index (map (at (65 - left)) (along row n)) result }
 {
     let mut next = index;
     let mut places = row;
-    let mut rest = n;
-    while 0 < rest {
+    for _child in 0..n {
         let place = grammar::first(places);
-        let r = record::read(tree, next as usize);
-        let stop = refused_at(tree, text, next, place, left, r);
-        if stop != 0 {
-            return stop;
-        }
+        let r = record::read(on.tree, next);
+        refused_at(on, next, place, left, r)?;
         next += 1;
         if r.kids != 0 {
             if r.kind == RUN {
-                next = check_tokens(tree, text, next, left - 1, r.kids);
+                next = check_tokens(on, next, left - 1, r.kids)?;
             } else {
                 let below = grammar::row(place, r.kind);
-                next = check_row(tree, text, next, below, left - 1, r.kids);
+                next = unpacked(row_below(on, next, below, left - 1, r.kids))?;
             }
         }
         places = grammar::turned(places);
-        rest -= 1;
     }
-    next
+    Ok(next)
 }
 
-// Whether a tree is empty, over_long, or no row of whole records.
+// The same as one number. A call hands a number back in a register and a Result in memory: with a Result here the check of the schema takes
+// 1,199,000 instructions, and so it takes 1,101,000.
+#[cycle(check_row)]
+fn row_below(on: &Lent, index: usize, row: u64, left: usize, n: u16) -> u64
+    requires { (index ≤ count' on.now.tree.now) × ((left ≤ 64) × (all_held row n ≡ true)) }
+    ensures { Walks on.now.tree.now on.now.text.now index (map (at (65 - left)) (along row n)) (unpacked' result) }
+{
+    packed(check_row(on, index, row, left, n))
+}
+
+// Whether a tree is empty, over-long, or no row of whole records.
 fn malformed(tree: &[u8]) -> bool
     ensures { result ≡ malformed' tree.now }
 {
@@ -424,37 +454,15 @@ fn malformed(tree: &[u8]) -> bool
     (n == 0) | ((LONGEST < n) | !(n % record::SIZE == 0))
 }
 
-// The answer that a walk's number stands for; an index stands for records that are left over from it on.
-fn answer_of(w: u64) -> Answer
-    ensures { result ≡ answer_of w }
+// The records of a tree, from the root on: the root is alone in its row, and none is left over behind it.
+fn check_records(on: &Lent) -> Answer
+    ensures { result ≡ scan on.now.tree.now on.now.text.now (count' on.now.tree.now) 0 (at 1 root ∷ []) }
 {
-    let number = w / REFUSED;
-    let index = (w % REFUSED) as usize;
-    if number == MARK {
-        return Answer::Mark(index);
+    let end = unpacked(row_below(on, 0, ROOT as u64, DEEPEST, 1))?;
+    if end < record::count(on.tree) {
+        return Err(Refusal::Ends(end));
     }
-    if number == MISFIT {
-        return Answer::Misfit(index);
-    }
-    if number == OUTSIDE {
-        return Answer::Outside(index);
-    }
-    if number == DEEP {
-        return Answer::Deep(index);
-    }
-    Answer::Ends(index)
-}
-
-// The records of a tree, from the root on: the root is alone in its row.
-fn check_records(tree: &[u8], text: &[u8]) -> Answer
-    requires { (count' tree.now < refused) × (boundary' text.now 0 ≡ true) }
-    ensures { result ≡ scan tree.now text.now (count' tree.now) 0 (at 1 root ∷ []) }
-{
-    let w = check_row(tree, text, 0, ROOT as u64, DEEPEST, 1);
-    if w == record::count(tree) as u64 {
-        return Answer::Admitted;
-    }
-    answer_of(w)
+    Ok(())
 }
 
 // The check of a tree over a text whose encoding is told: the first fitting refusal, or that they are admitted. That a text is valid is not taken where
@@ -463,18 +471,16 @@ pub fn check_told(tree: &[u8], text: &[u8], told: Encoding) -> Answer
     ensures { result ≡ answer_to (taken text.now told) tree.now text.now }
 {
     if malformed(tree) {
-        return Answer::Malformed;
+        return Err(Refusal::Malformed);
     }
     if LONGEST < text.len() {
-        return Answer::TooLong;
+        return Err(Refusal::TooLong);
     }
-    if utf8::number(told) != 0 {
-        return Answer::Broken(told);
-    }
+    told?;
     if !utf8::boundary(text, 0) {
-        return Answer::Broken(Encoding::Bad(0));
+        return Err(Refusal::Broken(Broken::Bad(0)));
     }
-    check_records(tree, text)
+    check_records(&Lent { tree, text })
 }
 
 // The check of a tree and its text. The text is not looked at where 1 or its length comes first.
@@ -482,7 +488,7 @@ pub fn check(tree: &[u8], text: &[u8]) -> Answer
     ensures { Checks tree.now text.now result }
 {
     if malformed(tree) | (LONGEST < text.len()) {
-        return check_told(tree, text, Encoding::Valid);
+        return check_told(tree, text, Ok(()));
     }
     check_told(tree, text, utf8::check(text))
 }

@@ -1,11 +1,10 @@
 -- What follows of texts: how they are put together and taken apart, that the check's answer is the only right one,
 -- and that on a text the boundaries are the ends of the texts that begin it. Assumes nothing.
-use Rattle.std.specs.Prelude.{ℕ, ◌≤◌, ◌<◌, ◌≡◌, refl, List, ◌++◌, Bool, true, false, not, ◌&&◌, ◌||◌, ◌↔◌, ltb, eqb, length, drop, get_or}
+use Rattle.std.specs.Prelude.{ℕ, ◌≤◌, ◌<◌, ◌≡◌, refl, List, ◌++◌, Bool, true, false, not, ◌&&◌, ◌||◌, ◌↔◌, ltb, eqb, length, drop, get_or, Ok, Err}
 use Rattle.std.proofs.Common.{ap, append_assoc, append-nil, arith, lt-ltb, ltb-true, ltb-false, eq-eqb, ne_eqb}
 use Rattle.std.proofs.Math.Seq.{take-length}
-use Rattle.utf8.specs.declared.Encoding.{Encoding}
-use Rattle.utf8.specs.declared.Encoding.TheVariants.{Valid, Bad, Cut}
-use Rattle.utf8.specs.Rfc3629.{Tail, Char, Text, none, more, Begins, Ends, Encoded, number, place, tail, boundary}
+use Rattle.utf8.specs.declared.Broken.TheVariants.{Bad, Cut}
+use Rattle.utf8.specs.Rfc3629.{Tail, Char, Text, none, more, Begins, Ends, Encoding, Encoded, number, place, tail, boundary}
 use Rattle.utf8.specs.Characters.{NoChar, tail_true, true_tail}
 
 -- ---- put together
@@ -40,32 +39,32 @@ one_way : (s : List ℕ) (p q : ℕ) → Ends s p → (Begins (drop p s) → ⊥
 one_way s p q h n k b = n (rw (ends_unique s p q h k) b)
 
 pub encoded_unique : (s : List ℕ) (a b : Encoding) → Encoded s a → Encoded s b → a ≡ b
-encoded_unique s Valid Valid h k = refl
-encoded_unique s Valid (Bad q) h k = absurd (ends_not_text s q k.0 h)
-encoded_unique s Valid (Cut q) h k = absurd (ends_not_text s q k.0 h)
-encoded_unique s (Bad p) Valid h k = absurd (ends_not_text s p h.0 k)
-encoded_unique s (Bad p) (Bad q) h k = ap Bad (ends_unique s p q h.0 k.0)
-encoded_unique s (Bad p) (Cut q) h k = absurd (one_way s p q h.0 h.1 k.0 k.1)
-encoded_unique s (Cut p) Valid h k = absurd (ends_not_text s p h.0 k)
-encoded_unique s (Cut p) (Bad q) h k = absurd (one_way s q p k.0 k.1 h.0 h.1)
-encoded_unique s (Cut p) (Cut q) h k = ap Cut (ends_unique s p q h.0 k.0)
+encoded_unique s (Ok _) (Ok _) h k = refl
+encoded_unique s (Ok _) (Err (Bad q)) h k = absurd (ends_not_text s q k.0 h)
+encoded_unique s (Ok _) (Err (Cut q)) h k = absurd (ends_not_text s q k.0 h)
+encoded_unique s (Err (Bad p)) (Ok _) h k = absurd (ends_not_text s p h.0 k)
+encoded_unique s (Err (Bad p)) (Err (Bad q)) h k = ap (λ (x : ℕ). Err (Bad x)) (ends_unique s p q h.0 k.0)
+encoded_unique s (Err (Bad p)) (Err (Cut q)) h k = absurd (one_way s p q h.0 h.1 k.0 k.1)
+encoded_unique s (Err (Cut p)) (Ok _) h k = absurd (ends_not_text s p h.0 k)
+encoded_unique s (Err (Cut p)) (Err (Bad q)) h k = absurd (one_way s q p k.0 k.1 h.0 h.1)
+encoded_unique s (Err (Cut p)) (Err (Cut q)) h k = ap (λ (x : ℕ). Err (Cut x)) (ends_unique s p q h.0 k.0)
 
 -- for callers, who do not go by the cases of the answer: its number is small, and its place within the bytes
 pub number_small : (e : Encoding) → number e < 16
-number_small Valid = omega arith
-number_small (Bad p) = omega arith
-number_small (Cut p) = omega arith
+number_small (Ok _) = omega arith
+number_small (Err (Bad p)) = omega arith
+number_small (Err (Cut p)) = omega arith
 
 pub place_within : (s : List ℕ) (e : Encoding) → Encoded s e → place e ≤ length s
-place_within s Valid h = omega arith
-place_within s (Bad p) h = omega (arith, h.0.0)
-place_within s (Cut p) h = omega (arith, h.0.0)
+place_within s (Ok _) h = omega arith
+place_within s (Err (Bad p)) h = omega (arith, h.0.0)
+place_within s (Err (Cut p)) h = omega (arith, h.0.0)
 
 -- the answer's number says whether the bytes are a text
 pub number_text : (s : List ℕ) (r : Encoding) → Encoded s r → (number r ≡ 0) ↔ Text s
-number_text s Valid h = (λ e. h, λ t. refl)
-number_text s (Bad p) h = (λ e. absurd (omega arith), λ t. absurd (ends_not_text s p h.0 t))
-number_text s (Cut p) h = (λ e. absurd (omega arith), λ t. absurd (ends_not_text s p h.0 t))
+number_text s (Ok _) h = (λ e. h, λ t. refl)
+number_text s (Err (Bad p)) h = (λ e. absurd (omega arith), λ t. absurd (ends_not_text s p h.0 t))
+number_text s (Err (Cut p)) h = (λ e. absurd (omega arith), λ t. absurd (ends_not_text s p h.0 t))
 
 -- ---- boundaries
 

@@ -1,7 +1,9 @@
 -- Plain bytes are from 20 to 7F. Each is a character, and none is a control below 20, so that a row of them is a text that holds no newline. Assumes nothing.
 use Rattle.std.specs.Prelude.{ℕ, zero, suc, ◌+◌, ◌-◌, ◌/◌, ◌≤◌, ◌<◌, ◌≡◌, refl, List, [], ◌∷◌, ◌++◌, Bool, true, false, not, ◌&&◌, leb, ltb, eqb, length, take, drop, get_or}
 use Rattle.std.proofs.Common.{◌∙◌, sym, arith, not-suc-le-zero, length-drop, take-append-drop, take_all, take-take, take-add, leb-true, le-leb, ltb-true, ne_eqb}
+use Rattle.std.proofs.Math.Bool.{and-true}
 use Rattle.std.proofs.lemmas.Bool.{false≢true, lt-leb}
+use Rattle.std.specs.List.{fold}
 use Rattle.laws.specs.Rest.{rest, length_rest}
 use Rattle.laws.specs.Tests.{and_left, and_right, and_both, as_one}
 use Rattle.utf8.specs.Rfc3629.{Text, none, more, one}
@@ -88,6 +90,16 @@ plain_take k s t = and_left (all_plain (take k s)) (all_plain (drop k s)) (sym (
 
 pub plain_drop : (k : ℕ) (s : List ℕ) → all_plain s ≡ true → all_plain (drop k s) ≡ true
 plain_drop k s t = and_right (all_plain (take k s)) (all_plain (drop k s)) (sym (plain_split k s) ∙ t)
+
+-- the bytes tested one by one
+pub folded : (t : Bool) (s : List ℕ) → fold (λ (a : Bool) b. a && plain b) t s ≡ t && all_plain s
+unfolding all_plain
+folded t [] = sym (and-true t)
+folded t (x ∷ s) = folded (t && plain x) s ∙ by t
+  where
+    by : (t : Bool) → (t && plain x) && all_plain s ≡ t && (plain x && all_plain s)
+    by true = refl
+    by false = refl
 
 -- ---- two tests, the second in what is left from a place on
 

@@ -1,8 +1,8 @@
 -- UTF-8 as RFC 3629 defines it in section 4: a character's bytes, a text, and what the check of a text answers.
 -- A byte is a number, a text a list of them. Assumes nothing.
-use Rattle.std.specs.Prelude.{ℕ, ◌≤◌, ◌<◌, List, [], ◌∷◌, ◌++◌, Bool, not, ◌&&◌, ◌||◌, leb, ltb, eqb, length, take, drop, get_or}
-use Rattle.utf8.specs.declared.Encoding.{Encoding}
-use Rattle.utf8.specs.declared.Encoding.TheVariants.{Valid, Bad, Cut}
+use Rattle.std.specs.Prelude.{ℕ, ◌≤◌, ◌<◌, List, [], ◌∷◌, ◌++◌, Bool, not, ◌&&◌, ◌||◌, leb, ltb, eqb, length, take, drop, get_or, Result, Ok, Err}
+use Rattle.utf8.specs.declared.Broken.{Broken}
+use Rattle.utf8.specs.declared.Broken.TheVariants.{Bad, Cut}
 
 -- %xA-B: a byte from a to b
 pub record In (a b x : ℕ) : Type 0 where
@@ -57,21 +57,25 @@ pub record Begins (s : List ℕ) : Type 0 where
 abbrev pub Ends : List ℕ → ℕ → Type 0
 Ends s p = (p < length s) × Longest s p
 
+-- (the answer is nothing more where they are a text, and else how they are broken)
+abbrev pub Encoding : Type 0
+Encoding = Result (Unit {0}) Broken
+
 abbrev pub Encoded : List ℕ → Encoding → Type 0
-Encoded s Valid = Text s
-Encoded s (Bad p) = Ends s p × (Begins (drop p s) → ⊥)
-Encoded s (Cut p) = Ends s p × Begins (drop p s)
+Encoded s (Ok _) = Text s
+Encoded s (Err (Bad p)) = Ends s p × (Begins (drop p s) → ⊥)
+Encoded s (Err (Cut p)) = Ends s p × Begins (drop p s)
 
 -- the answer's number (01's, and 02's for cut off), and the place that goes with it
 abbrev pub number : Encoding → ℕ
-number Valid = 0
-number (Bad p) = 2
-number (Cut p) = 12
+number (Ok _) = 0
+number (Err (Bad p)) = 2
+number (Err (Cut p)) = 12
 
 abbrev pub place : Encoding → ℕ
-place Valid = 0
-place (Bad p) = p
-place (Cut p) = p
+place (Ok _) = 0
+place (Err (Bad p)) = p
+place (Err (Cut p)) = p
 
 -- the byte is a UTF8-tail
 abbrev pub tail : ℕ → Bool

@@ -1,9 +1,8 @@
 -- The length of the character that begins a row of bytes, as the code finds it: by the count of ones at the top of its first byte.
 -- `Characters` shows that this is the RFC's. And whether the row is a proper beginning of a character, which `Beginnings` shows. Assumes nothing.
-use Rattle.std.specs.Prelude.{ℕ, List, [], ◌∷◌, Bool, true, false, cond, ◌&&◌, leb, ltb, eqb, length, get_or}
-use Rattle.utf8.specs.declared.Encoding.{Encoding}
-use Rattle.utf8.specs.declared.Encoding.TheVariants.{Bad, Cut}
-use Rattle.utf8.specs.Rfc3629.{tail}
+use Rattle.std.specs.Prelude.{ℕ, List, [], ◌∷◌, Bool, true, false, cond, ◌&&◌, leb, ltb, eqb, length, get_or, Err}
+use Rattle.utf8.specs.declared.Broken.TheVariants.{Bad, Cut}
+use Rattle.utf8.specs.Rfc3629.{Encoding, tail}
 
 -- how many ones a byte has at its top
 unfoldable pub ones : ℕ → ℕ
@@ -73,4 +72,4 @@ begins s =
 
 -- what is said of the bytes from a place on that no character begins
 unfoldable pub broken_at : List ℕ → ℕ → Encoding
-broken_at s p = cond (begins s) (Cut p) (Bad p)
+broken_at s p = Err (cond (begins s) (Cut p) (Bad p))

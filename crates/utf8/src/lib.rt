@@ -1,10 +1,9 @@
 // UTF-8 (RFC 3629): whether bytes are a text, where the longest text that begins them ends, and where characters start.
 #![tactic(auto)]
 
-ghost use Rattle.std.specs.Prelude.{◌≡◌, ◌<◌, ◌≤◌, ◌^◌, true, length, take};
+ghost use Rattle.std.specs.Prelude.{◌≡◌, ◌+◌, ◌<◌, ◌≤◌, true, length, take};
 ghost use Rattle.utf8.specs.Rfc3629.{Encoded, number as number', place as place', tail as tail', boundary as boundary'};
 ghost use Rattle.utf8.specs.Scan.{ones as ones', low as low', high as high', second as second', two as two', three as three', four as four', width, long as long', begins as begins', broken_at};
-ghost use Rattle.laws.specs.Little.{from_little};
 ghost use Rattle.utf8.specs.Plain.{plain as plain', all_plain, few_plain, many_plain, Stops, Goes};
 
 // A tail, a byte that goes on with a character, is from 80 to BF.
@@ -39,7 +38,7 @@ const NOT_UTF8: u64 = 2;
 
 const CUT_OFF: u64 = 12;
 
-// Bytes are tested four, eight, sixteen or, in a long text, sixty-four at once.
+// Plain bytes are looked for four, eight, sixteen or, in a long text, sixty-four at once.
 const FOUR: usize = 4;
 
 const EIGHT: usize = 8;
@@ -48,34 +47,29 @@ const BLOCK: usize = 16;
 
 const PAGE: usize = 64;
 
-// The highest bit of each of four bytes.
-const HIGHEST_BITS: u64 = 0x8080_8080;
-
 // The first plain byte: the controls stand before it.
 const PLAIN_FIRST: u8 = 0x20;
 
-// 9F in each of four bytes, and a bit above them, so that no number of four bytes is greater: what is left of 9F by a byte from 20 on is below 80.
-const ABOVE_CONTROLS: u64 = 0x1_9F9F_9F9F;
-
-// What the check answers.
-#[derive(Clone, Copy)]
-pub enum Encoding {
-    // The bytes are a text.
-    Valid,
-    // They are none: the longest text that begins them ends here.
+// What bytes that are no text have: the longest text that begins them ends somewhere before they do.
+#[derive(Clone, Copy, PartialEq, Eq)]
+pub enum Broken {
+    // It ends here, and what is behind it begins no character.
     Bad(usize),
-    // The same, and from here to the end they are a proper beginning of a character.
+    // It ends here, and from here to the end the bytes are a proper beginning of a character.
     Cut(usize),
 }
+
+// What the check answers: that the bytes are a text, or how they are broken.
+pub type Encoding = Result<(), Broken>;
 
 // The number of 01's table that an answer is: 0, or the refusal's.
 pub fn number(e: Encoding) -> u64
     ensures { result ≡ number' e }
 {
     match e {
-        Encoding::Valid => 0,
-        Encoding::Bad(_) => NOT_UTF8,
-        Encoding::Cut(_) => CUT_OFF,
+        Ok(()) => 0,
+        Err(Broken::Bad(_)) => NOT_UTF8,
+        Err(Broken::Cut(_)) => CUT_OFF,
     }
 }
 
@@ -84,9 +78,8 @@ pub fn place(e: Encoding) -> usize
     ensures { result ≡ place' e }
 {
     match e {
-        Encoding::Valid => 0,
-        Encoding::Bad(at) => at,
-        Encoding::Cut(at) => at,
+        Ok(()) => 0,
+        Err(Broken::Bad(at) | Broken::Cut(at)) => at,
     }
 }
 
@@ -176,7 +169,8 @@ fn four(s: &[u8]) -> usize
     0
 }
 
-// The length of the character that begins the bytes, by the count of ones of its first byte; 0 where none does.
+// The length of the character that begins the bytes, by the count of ones of its first byte; 0 where none does. (No Option: the definition `width`
+// counts bytes, and an Option would have to be turned back to that count.)
 fn char_len(s: &[u8]) -> usize
     requires { 0 < length s.now }
     ensures { result ≡ width s.now }
@@ -198,48 +192,12 @@ fn plain_byte(b: u8) -> bool
     (PLAIN_FIRST <= b) & (b < TAIL_FIRST)
 }
 
-// The number of the first four bytes, the lowest first.
-fn number_of_four(s: &[u8]) -> u64
-    requires { 4 ≤ length s.now }
-    ensures { (result ≡ from_little (take 4 s.now)) × (result < 2 ^ 32) }
+// Whether the first N bytes are.
+fn plain_first<const N: usize>(s: &[u8]) -> bool
+    requires { N ≤ length s.now }
+    ensures { result ≡ all_plain (take N s.now) }
 {
-    s[0] as u64 + 256 * (s[1] as u64 + 256 * (s[2] as u64 + 256 * s[3] as u64))
-}
-
-// Whether the first four bytes are plain: none of them has the highest bit, and neither has what each leaves of 9F.
-fn plain_four(s: &[u8]) -> bool
-    requires { 4 ≤ length s.now }
-    ensures { result ≡ all_plain (take 4 s.now) }
-{
-    let n = number_of_four(s);
-    (n & HIGHEST_BITS == 0) & ((ABOVE_CONTROLS - n) & HIGHEST_BITS == 0)
-}
-
-// Whether the first eight bytes are.
-fn plain_eight(s: &[u8]) -> bool
-    requires { 8 ≤ length s.now }
-    ensures { result ≡ all_plain (take 8 s.now) }
-{
-    plain_four(s) & plain_four(&s[FOUR..])
-}
-
-// Whether the first sixteen bytes are.
-fn plain_block(s: &[u8]) -> bool
-    requires { 16 ≤ length s.now }
-    ensures { result ≡ all_plain (take 16 s.now) }
-{
-    plain_eight(s) & plain_eight(&s[EIGHT..])
-}
-
-// Whether the first sixty-four bytes are.
-fn plain_page(s: &[u8]) -> bool
-    requires { 64 ≤ length s.now }
-    ensures { result ≡ all_plain (take 64 s.now) }
-{
-    plain_block(s)
-        & plain_block(&s[BLOCK..])
-        & plain_block(&s[2 * BLOCK..])
-        & plain_block(&s[3 * BLOCK..])
+    s[..N].iter().fold(true, |all, b| all & plain_byte(*b))
 }
 
 // Whether up to three bytes are: the first, the middle and the last, which may be one.
@@ -254,35 +212,34 @@ fn plain_three(s: &[u8]) -> bool
     plain_byte(s[0]) & plain_byte(s[n / 2]) & plain_byte(s[n - 1])
 }
 
-// Where the pages of sixty-four plain bytes that begin the bytes end.
-fn pages(s: &[u8]) -> usize
-    ensures { Stops 64 s.now result }
+// Where the pieces of N plain bytes that begin the bytes end. (A `while`: a place is asked for, which a `for` over chunks would count beside them.)
+fn pieces<const N: usize>(s: &[u8]) -> usize
+    requires { 0 < N }
+    ensures { Stops N s.now result }
 {
     let mut i = 0;
-    while PAGE <= s.len() - i {
-        if !plain_page(&s[i..]) {
+    while N <= s.len() - i {
+        if !plain_first::<N>(&s[i..]) {
             return i;
         }
-        i += PAGE;
+        i += N;
     }
     i
 }
 
-// Where the blocks of sixteen plain bytes that begin the bytes end.
-fn blocks(s: &[u8]) -> usize
-    ensures { Stops 16 s.now result }
+// Whether all bytes are plain, of which there are N or more: pieces of them, and the last one, which need not begin where the one before it ends.
+fn plain_long<const N: usize>(s: &[u8]) -> bool
+    requires { (0 < N) × (N ≤ length s.now) }
+    ensures { result ≡ all_plain s.now }
 {
-    let mut i = 0;
-    while BLOCK <= s.len() - i {
-        if !plain_block(&s[i..]) {
-            return i;
-        }
-        i += BLOCK;
+    let n = s.len();
+    if n - pieces::<N>(s) < N {
+        return plain_first::<N>(&s[n - N..]);
     }
-    i
+    false
 }
 
-// Whether there are more than sixteen bytes, and all are plain: blocks or pages of them, and the last one, which need not begin where the one before it ends.
+// Whether there are more than sixteen bytes, and all are plain.
 pub fn plain_many(s: &[u8]) -> bool
     ensures { result ≡ many_plain s.now }
 {
@@ -291,18 +248,20 @@ pub fn plain_many(s: &[u8]) -> bool
         return false;
     }
     if n < PAGE {
-        if n - blocks(s) < BLOCK {
-            return plain_block(&s[n - BLOCK..]);
-        }
-        return false;
+        return plain_long::<BLOCK>(s);
     }
-    if n - pages(s) < PAGE {
-        return plain_page(&s[n - PAGE..]);
-    }
-    false
+    plain_long::<PAGE>(s)
 }
 
-// Whether there are at most sixteen bytes, and all are plain. Two tests that overlap reach them all.
+// Whether all bytes are plain, of which there are N to twice N: two tests that overlap reach them all.
+fn plain_ends<const N: usize>(s: &[u8]) -> bool
+    requires { (N ≤ length s.now) × (length s.now ≤ N + N) }
+    ensures { result ≡ all_plain s.now }
+{
+    plain_first::<N>(s) & plain_first::<N>(&s[s.len() - N..])
+}
+
+// Whether there are at most sixteen bytes, and all are plain.
 pub fn plain_few(s: &[u8]) -> bool
     ensures { result ≡ few_plain s.now }
 {
@@ -311,10 +270,10 @@ pub fn plain_few(s: &[u8]) -> bool
         return plain_three(s);
     }
     if n < EIGHT {
-        return plain_four(s) & plain_four(&s[n - FOUR..]);
+        return plain_ends::<FOUR>(s);
     }
     if n <= BLOCK {
-        return plain_eight(s) & plain_eight(&s[n - EIGHT..]);
+        return plain_ends::<EIGHT>(s);
     }
     false
 }
@@ -323,8 +282,8 @@ pub fn plain_few(s: &[u8]) -> bool
 fn plain_start(s: &[u8]) -> usize
     ensures { (result ≤ length s.now) × (all_plain (take result s.now) ≡ true) }
 {
-    let i = pages(s);
-    i + blocks(&s[i..])
+    let i = pieces::<PAGE>(s);
+    i + pieces::<BLOCK>(&s[i..])
 }
 
 // How far the text goes on: a byte that is plain, or a character and the blocks of plain bytes behind it; 0 where no character begins the bytes.
@@ -339,7 +298,7 @@ fn next_len(s: &[u8]) -> usize
     if n == 0 {
         return 0;
     }
-    n + blocks(&s[n..])
+    n + pieces::<BLOCK>(&s[n..])
 }
 
 // How many bytes the character has that a byte begins, where it has more than one; 1 for any other byte.
@@ -375,17 +334,18 @@ fn begins(s: &[u8]) -> bool
     second(s[0], s[1]) & tail(s[2])
 }
 
-// What is said of bytes that are no text, from the place where the longest text that begins them ends.
-fn broken(rest: &[u8], at: usize) -> Encoding
-    ensures { result ≡ broken_at rest.now at }
+// How bytes that are no text are broken, from the place where the longest text that begins them ends.
+fn fault(rest: &[u8], at: usize) -> Broken
+    ensures { Err result ≡ broken_at rest.now at }
 {
     if begins(rest) {
-        return Encoding::Cut(at);
+        return Broken::Cut(at);
     }
-    Encoding::Bad(at)
+    Broken::Bad(at)
 }
 
-// Whether the bytes are a text, and if not, where the longest text that begins them ends, and whether they are cut off there.
+// Whether the bytes are a text, and if not, where the longest text that begins them ends, and whether they are cut off there. (A `while`: a turn
+// goes on by a character and the plain bytes behind it, so no iterator of the library has the turns.)
 pub fn check(s: &[u8]) -> Encoding
     ensures { Encoded s.now result }
 {
@@ -393,11 +353,11 @@ pub fn check(s: &[u8]) -> Encoding
     while i < s.len() {
         let n = next_len(&s[i..]);
         if n == 0 {
-            return broken(&s[i..], i);
+            return Err(fault(&s[i..], i));
         }
         i += n;
     }
-    Encoding::Valid
+    Ok(())
 }
 
 // Whether a place of a text lies between two characters: the end, or the start of a character.

@@ -1,12 +1,10 @@
 -- The definition's search through the 25, by how many bytes the characters take; and each way out of the code's.
-use Prim.Native.Nat.{ℕ, suc, ◌+◌, ◌-◌, ◌≤◌, ◌<◌}
+use Prim.Native.Nat.{ℕ, ◌≤◌, ◌<◌}
 use native.Mathlib.Omega.{arith}
-use native.Mathlib.Numerals.{add-one}
-use mathlib.Core.Path.{◌≡◌, refl, ◌∙◌}
+use mathlib.Core.Path.{◌≡◌, refl}
 use mathlib.Core.List.{List, [], ◌∷◌, ◌++◌}
 use mathlib.Core.Bool.{Bool, true, false, cond, ◌||◌, and-false}
 use lib.ListN.{length, get_or, drop, drop_of_length-le}
-use lib.Seq.{drop-cons}
 use lib.Dec.{eqb}
 use borrow.Author.Tests.{eqb-true}
 use Rattle.laws.specs.Among.{all}
@@ -26,65 +24,44 @@ group n s (c ∷ cs) ds h =
     by true e r = e
     by false e r = r
 
-first : (a : ℕ) (t : List ℕ) → white_length (a ∷ t) ≡ cond (begins_one_of (a ∷ []) ones) 1 (length_among (a ∷ t) (twos ++ threes))
+-- what each of the code's tests decides, where there are bytes for it
+pub by_one : (s : List ℕ) → 1 ≤ length s → white_length s ≡ cond (begins_one_of (get_or s 0 0 ∷ []) ones) 1 (length_among s (twos ++ threes))
 unfolding white_length begins_one_of
-first a t = group 1 (a ∷ t) ones (twos ++ threes) refl
+by_one [] h = absurd (omega arith)
+by_one (a ∷ t) h = group 1 (a ∷ t) ones (twos ++ threes) refl
 
-next : (a b : ℕ) (t : List ℕ) → length_among (a ∷ b ∷ t) (twos ++ threes) ≡ cond (begins_one_of (a ∷ b ∷ []) twos) 2 (length_among (a ∷ b ∷ t) threes)
+pub by_two : (s : List ℕ) → 2 ≤ length s → length_among s (twos ++ threes) ≡ cond (begins_one_of (get_or s 0 0 ∷ get_or s 1 0 ∷ []) twos) 2 (length_among s threes)
 unfolding begins_one_of
-next a b t = group 2 (a ∷ b ∷ t) twos threes refl
+by_two [] h = absurd (omega arith)
+by_two (a ∷ []) h = absurd (omega arith)
+by_two (a ∷ b ∷ t) h = group 2 (a ∷ b ∷ t) twos threes refl
 
-last : (a b c : ℕ) (t : List ℕ) → length_among (a ∷ b ∷ c ∷ t) threes ≡ cond (begins_one_of (a ∷ b ∷ c ∷ []) threes) 3 0
+pub by_three : (s : List ℕ) → 3 ≤ length s → length_among s threes ≡ cond (begins_one_of (get_or s 0 0 ∷ get_or s 1 0 ∷ get_or s 2 0 ∷ []) threes) 3 0
 unfolding length_among begins_one_of
-last a b c t = group 3 (a ∷ b ∷ c ∷ t) threes [] refl
+by_three [] h = absurd (omega arith)
+by_three (a ∷ []) h = absurd (omega arith)
+by_three (a ∷ b ∷ []) h = absurd (omega arith)
+by_three (a ∷ b ∷ c ∷ t) h = group 3 (a ∷ b ∷ c ∷ t) threes [] refl
 
-alone : (a : ℕ) → length_among (a ∷ []) (twos ++ threes) ≡ 0
-unfolding length_among
-alone a = simp and-false
+-- and where there are too few
+pub none_of : (s : List ℕ) → length s < 1 → white_length s ≡ 0
+unfolding white_length length_among
+none_of [] h = refl
+none_of (a ∷ t) h = absurd (omega arith)
 
-pair : (a b : ℕ) → length_among (a ∷ b ∷ []) threes ≡ 0
+pub too_few_for_two : (s : List ℕ) → 1 ≤ length s → length s < 2 → length_among s (twos ++ threes) ≡ 0
 unfolding length_among
-pair a b = simp and-false
+too_few_for_two [] h l = absurd (omega arith)
+too_few_for_two (a ∷ []) h l = simp and-false
+too_few_for_two (a ∷ b ∷ t) h l = absurd (omega arith)
+
+pub too_few_for_three : (s : List ℕ) → 2 ≤ length s → length s < 3 → length_among s threes ≡ 0
+unfolding length_among
+too_few_for_three [] h l = absurd (omega arith)
+too_few_for_three (a ∷ []) h l = absurd (omega arith)
+too_few_for_three (a ∷ b ∷ []) h l = simp and-false
+too_few_for_three (a ∷ b ∷ c ∷ t) h l = absurd (omega arith)
 
 pub past_end : (s : List ℕ) (i : ℕ) → length s ≤ i → white_length (drop i s) ≡ 0
 unfolding white_length length_among
 past_end s i h = rw (drop_of_length-le s h)
-
--- s the text, i the place, and what the code's three tests said of the bytes there
-module _ (s : List ℕ) (i : ℕ) (h : i < length s) (p : Bool) (p-is : p ≡ begins_one_of (get_or s i 0 ∷ []) ones) where
-  here : drop i s ≡ get_or s i 0 ∷ drop (i + 1) s
-  here = rw (add-one, drop-cons s i 0)
-
-  pub is_one : p ≡ true → white_length (drop i s) ≡ 1
-  is_one y = rw (here, first, ← p-is, y)
-
-  not_one : p ≡ false → white_length (drop i s) ≡ length_among (get_or s i 0 ∷ drop (i + 1) s) (twos ++ threes)
-  not_one y = rw (here, first, ← p-is, y)
-
-  pub one_left : p ≡ false → length s - i < 2 → white_length (drop i s) ≡ 0
-  one_left y l = not_one y ∙ (let d : length s ≤ i + 1 = omega arith in rw (drop_of_length-le s d, alone))
-
-  module _ (y : p ≡ false) (l : 2 ≤ length s - i) (q : Bool) (q-is : q ≡ begins_one_of (get_or s i 0 ∷ get_or s (i + 1) 0 ∷ []) twos) where
-    there : drop (i + 1) s ≡ get_or s (i + 1) 0 ∷ drop (i + 2) s
-    there =
-        let e : i + 2 ≡ suc (i + 1) = omega arith in
-        rw (e, drop-cons s (i + 1) 0 (omega arith))
-
-    pub is_two : q ≡ true → white_length (drop i s) ≡ 2
-    is_two z = not_one y ∙ rw (there, next, ← q-is, z)
-
-    not_two : q ≡ false → white_length (drop i s) ≡ length_among (get_or s i 0 ∷ get_or s (i + 1) 0 ∷ drop (i + 2) s) threes
-    not_two z = not_one y ∙ rw (there, next, ← q-is, z)
-
-    pub two_left : q ≡ false → length s - i < 3 → white_length (drop i s) ≡ 0
-    two_left z k = not_two z ∙ (let d : length s ≤ i + 2 = omega arith in rw (drop_of_length-le s d, pair))
-
-    module _ (z : q ≡ false) (k : 3 ≤ length s - i) (r : Bool) (r-is : r ≡ begins_one_of (get_or s i 0 ∷ get_or s (i + 1) 0 ∷ get_or s (i + 2) 0 ∷ []) threes) where
-      behind : drop (i + 2) s ≡ get_or s (i + 2) 0 ∷ drop (suc (i + 2)) s
-      behind = drop-cons s (i + 2) 0 (omega arith)
-
-      pub is_three : r ≡ true → white_length (drop i s) ≡ 3
-      is_three w = not_two z ∙ rw (behind, last, ← r-is, w)
-
-      pub is_none : r ≡ false → white_length (drop i s) ≡ 0
-      is_none w = not_two z ∙ rw (behind, last, ← r-is, w)

@@ -1,4 +1,3 @@
-pub mod Tests
 pub mod Lengths
 pub mod Runs
 pub mod Count

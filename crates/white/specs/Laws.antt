@@ -1,11 +1,11 @@
 -- The definitions are right: the code points and their bytes, and examples of 01, section 4.
-use Rattle.std.specs.Prelude.{ℕ, ◌<◌, ◌≡◌, refl, List, [], ◌∷◌, ◌++◌, Bool, true, cond, ◌&&◌, eqb, ltb, length}
+use Rattle.std.specs.Prelude.{ℕ, ◌<◌, ◌≡◌, refl, List, [], ◌∷◌, ◌++◌, Bool, true, cond, ◌&&◌, eqb, ltb, length, Some, None}
 use Rattle.std.proofs.Common.{eqb-true}
 use Rattle.laws.specs.Among.{among, all}
 use Rattle.laws.specs.Below.{at}
 use Rattle.laws.specs.Text.{ascii}
 use Rattle.white.specs.White.{white_space, encode, white_length, length_among}
-use Rattle.white.specs.Parts.{marks, runs, parts, split_of, first_of}
+use Rattle.white.specs.Parts.{span, marks, runs, parts, split_of, first_of}
 
 -- there are 25
 all_there : length white_space ≡ 25
@@ -45,30 +45,30 @@ unfolding white_length length_among
 not_white = refl
 
 -- examples
-without_rowid_lem : split_of (ascii "WITHOUT ROWID") ≡ record { count = 2; start = 8; len = 5 }
+without_rowid_lem : split_of (ascii "WITHOUT ROWID") ≡ record { count = 2; second = Some (span 8 5) }
 unfolding split_of parts runs marks white_length length_among
 without_rowid_lem = refl
 
-empty : split_of [] ≡ record { count = 0; start = 0; len = 0 }
+empty : split_of [] ≡ record { count = 0; second = None }
 unfolding split_of parts runs marks white_length length_among
 empty = refl
 
-blanks_only : split_of (ascii "   ") ≡ record { count = 0; start = 0; len = 0 }
+blanks_only : split_of (ascii "   ") ≡ record { count = 0; second = None }
 unfolding split_of parts runs marks white_length length_among
 blanks_only = refl
 
-one_part : split_of (ascii " STRICT ") ≡ record { count = 1; start = 0; len = 0 }
+one_part : split_of (ascii " STRICT ") ≡ record { count = 1; second = None }
 unfolding split_of parts runs marks white_length length_among
 one_part = refl
 
-wide_spaces : split_of (ascii "a" ++ encode 0xA0 ++ ascii "b" ++ encode 0x3000) ≡ record { count = 2; start = 3; len = 1 }
+wide_spaces : split_of (ascii "a" ++ encode 0xA0 ++ ascii "b" ++ encode 0x3000) ≡ record { count = 2; second = Some (span 3 1) }
 unfolding split_of parts runs marks white_length length_among
 wide_spaces = refl
 
-first_behind : first_of (encode 0xA0 ++ ascii "a b") ≡ record { start = 2; len = 1 }
+first_behind : first_of (encode 0xA0 ++ ascii "a b") ≡ Some (span 2 1)
 unfolding first_of parts runs marks white_length length_among
 first_behind = refl
 
-no_first : first_of (ascii "  ") ≡ record { start = 0; len = 0 }
+no_first : first_of (ascii "  ") ≡ None
 unfolding first_of parts runs marks white_length length_among
 no_first = refl

@@ -1,12 +1,12 @@
 -- 01, section 4: "split at White_Space characters .. Exactly two non-empty parts (empty ones don't count)". The parts are the longest runs of bytes that belong to no White_Space character.
-use Rattle.std.specs.Prelude.{ℕ, zero, suc, ◌+◌, ◌-◌, List, [], ◌∷◌, ◌++◌, Bool, true, false, length, get_or, ltb}
+use Rattle.std.specs.Prelude.{ℕ, zero, suc, ◌+◌, ◌-◌, List, [], ◌∷◌, ◌++◌, Bool, true, false, length, get_or, ltb, Option, slice_get}
 use Rattle.white.specs.White.{white_length}
 use Rattle.white.specs.declared.Parts.{Parts}
 use Rattle.white.specs.declared.Part.{Part}
 
-pub record Span : Type 0 where
-  pub start : ℕ
-  pub len : ℕ
+-- where a part stands, as the code gives it
+abbrev pub Span : Type 0
+Span = Part
 
 abbrev pub span : ℕ → ℕ → Span
 span i n = record { start = i; len = n }
@@ -36,11 +36,11 @@ abbrev pub second : List Span → Span
 second ps = get_or ps 1 (span 0 0)
 
 unfoldable pub split_of : List ℕ → Parts
-split_of s = record { count = length (parts s); start = (second (parts s)).start; len = (second (parts s)).len }
+split_of s = record { count = length (parts s); second = slice_get (parts s) 1 }
 
 -- the first of them, and 0 and 0 where there is none
 abbrev pub first : List Span → Span
 first ps = get_or ps 0 (span 0 0)
 
-unfoldable pub first_of : List ℕ → Part
-first_of s = record { start = (first (parts s)).start; len = (first (parts s)).len }
+unfoldable pub first_of : List ℕ → Option Part
+first_of s = slice_get (parts s) 0

@@ -1,5 +1,5 @@
 -- What the small functions say to one another.
-use Rattle.std.specs.Prelude.{ℕ, ◌+◌, ◌-◌, ◌≤◌, ◌<◌, ◌≡◌, List, [], ◌∷◌, Bool, false, cond, ◌||◌, length, take, drop, eqb}
+use Rattle.std.specs.Prelude.{ℕ, ◌+◌, ◌-◌, ◌≤◌, ◌<◌, ◌≡◌, List, [], ◌∷◌, Bool, false, cond, ◌||◌, length, take, drop, eqb, Some}
 use Rattle.white.specs.White.{white_space, encode, begins, white_length}
 use Rattle.white.specs.Parts.{Span, span, marks, runs}
 use Rattle.white.specs.declared.Parts.{Parts}
@@ -42,5 +42,4 @@ pub record SkipsPart (s : List ℕ) (at r : ℕ) : Type 0 where
 
 -- one part more: the second is kept
 unfoldable pub counted : Parts → ℕ → ℕ → Parts
-counted p i n =
-    cond (eqb p.count 1) (record { count = p.count + 1; start = i; len = n }) (record { count = p.count + 1; start = p.start; len = p.len })
+counted p i n = record { count = p.count + 1; second = cond (eqb p.count 1) (Some (span i n)) p.second }

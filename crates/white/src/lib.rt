@@ -64,82 +64,85 @@ const THREE_BYTES: usize = 3;
 // How many parts were counted when the second one comes.
 const ONE_PART: usize = 1;
 
-// How many parts a text has, and where the second one stands: 0 and 0 where there is none.
-#[derive(Clone, Copy)]
-pub struct Parts {
-    pub count: usize,
-    pub start: usize,
-    pub len: usize,
-}
-
 // Where a part of a text stands.
-#[derive(Clone, Copy)]
+#[derive(Clone, Copy, PartialEq, Eq)]
 pub struct Part {
     pub start: usize,
     pub len: usize,
 }
 
+// How many parts a text has, and where the second one stands.
+#[derive(Clone, Copy, PartialEq, Eq)]
+pub struct Parts {
+    pub count: usize,
+    pub second: Option<Part>,
+}
+
 // Whether a byte is a White_Space character by itself.
+#[tactic(auto, unfolding(crate::specs::Steps::begins_one_of))]
 fn one(a: u8) -> bool
     ensures { result ≡ begins_one_of (a ∷ []) ones }
 {
-    ((TAB <= a) & (a <= CARRIAGE_RETURN)) | (a == SPACE)
+    matches!(a, TAB..=CARRIAGE_RETURN | SPACE)
 }
 
 // Whether two bytes are one.
+#[tactic(auto, unfolding(crate::specs::Steps::begins_one_of))]
 fn two(a: u8, b: u8) -> bool
     ensures { result ≡ begins_one_of (a ∷ b ∷ []) twos }
 {
-    (a == LATIN_LEAD) & ((b == NEXT_LINE) | (b == NO_BREAK_SPACE))
+    matches!((a, b), (LATIN_LEAD, NEXT_LINE | NO_BREAK_SPACE))
 }
 
 // Whether a byte is the last one of a space in the block of punctuation.
 fn space(c: u8) -> bool
     ensures { result ≡ among c spaces }
 {
-    ((EN_QUAD <= c) & (c <= HAIR_SPACE))
-        | ((c == LINE_SEPARATOR) | ((c == PARAGRAPH_SEPARATOR) | (c == NARROW_SPACE)))
+    matches!(
+        c,
+        EN_QUAD..=HAIR_SPACE | LINE_SEPARATOR | PARAGRAPH_SEPARATOR | NARROW_SPACE
+    )
 }
 
 // Whether three bytes are one.
+#[tactic(auto, unfolding(crate::specs::Steps::begins_one_of))]
 fn three(a: u8, b: u8, c: u8) -> bool
     ensures { result ≡ begins_one_of (a ∷ b ∷ c ∷ []) threes }
 {
-    ((a == OGHAM_LEAD) & ((b == OGHAM_MIDDLE) & (c == OGHAM_LAST)))
-        | (((a == PUNCTUATION_LEAD) & ((b == PUNCTUATION_MIDDLE) & space(c)))
-            | (((a == PUNCTUATION_LEAD) & ((b == MATH_MIDDLE) & (c == MATH_LAST)))
-                | ((a == WIDE_LEAD) & ((b == WIDE_MIDDLE) & (c == WIDE_LAST)))))
+    match (a, b) {
+        (OGHAM_LEAD, OGHAM_MIDDLE) => c == OGHAM_LAST,
+        (PUNCTUATION_LEAD, PUNCTUATION_MIDDLE) => space(c),
+        (PUNCTUATION_LEAD, MATH_MIDDLE) => c == MATH_LAST,
+        (WIDE_LEAD, WIDE_MIDDLE) => c == WIDE_LAST,
+        _ => false,
+    }
+}
+
+// How many bytes the White_Space character takes that the bytes begin with; 0 where they begin with none. (No Option: the definition
+// `white_length` counts bytes, and an Option would have to be turned back to that count.)
+fn first_length(s: &[u8]) -> usize
+    ensures { result ≡ white_length' s.now }
+{
+    match s {
+        [a, ..] if one(*a) => ONE_BYTE,
+        [a, b, ..] if two(*a, *b) => TWO_BYTES,
+        [a, b, c, ..] if three(*a, *b, *c) => THREE_BYTES,
+        _ => 0,
+    }
 }
 
 // How many bytes the White_Space character takes that stands at a place; 0 where none does.
+#[tactic(auto, using(crate::proofs::Lengths::past_end))]
 pub fn white_length(s: &[u8], at: usize) -> usize
     ensures { result ≡ white_length' (drop at s.now) }
 {
     if s.len() <= at {
         return 0;
     }
-    let left = s.len() - at;
-    let a = s[at];
-    if one(a) {
-        return ONE_BYTE;
-    }
-    if left < TWO_BYTES {
-        return 0;
-    }
-    let b = s[at + ONE_BYTE];
-    if two(a, b) {
-        return TWO_BYTES;
-    }
-    if left < THREE_BYTES {
-        return 0;
-    }
-    if three(a, b, s[at + TWO_BYTES]) {
-        return THREE_BYTES;
-    }
-    0
+    first_length(&s[at..])
 }
 
-// The first place from `at` on where no White_Space character stands.
+// The first place from `at` on where no White_Space character stands. (A `while`: a turn goes on by a character's length, 0 where none stands.)
 fn skip_white(s: &[u8], at: usize) -> usize
     requires { at ≤ length s.now }
     ensures { SkipsWhite s.now at result }
@@ -158,32 +161,31 @@ fn skip_part(s: &[u8], at: usize) -> usize
     requires { (at < length s.now) × (white_length' (drop at s.now) ≡ 0) }
     ensures { SkipsPart s.now at result }
 {
-    let mut i = at + 1;
-    while i < s.len() {
+    for i in at + 1..s.len() {
         if 0 < white_length(s, i) {
             return i;
         }
-        i += 1;
     }
-    i
+    s.len()
 }
 
 // One part more, from `at` to `end`: the second one is kept.
+#[tactic(auto, unfolding(crate::specs::Steps::counted))]
 fn count_part(p: Parts, at: usize, end: usize) -> Parts
     requires { (p.count < end) × (at ≤ end) }
     ensures { result ≡ counted p at (end - at) }
 {
-    if p.count == ONE_PART {
-        return Parts {
-            count: p.count + 1,
-            start: at,
-            len: end - at,
-        };
-    }
+    let part = Part {
+        start: at,
+        len: end - at,
+    };
     Parts {
         count: p.count + 1,
-        start: p.start,
-        len: p.len,
+        second: if p.count == ONE_PART {
+            Some(part)
+        } else {
+            p.second
+        },
     }
 }
 
@@ -193,8 +195,7 @@ pub fn split(s: &[u8]) -> Parts
 {
     let mut p = Parts {
         count: 0,
-        start: 0,
-        len: 0,
+        second: None,
     };
     let mut at = skip_white(s, 0);
     while at < s.len() {
@@ -205,17 +206,17 @@ pub fn split(s: &[u8]) -> Parts
     p
 }
 
-// Where the first of those parts stands: 0 and 0 where there is none.
-pub fn first_part(s: &[u8]) -> Part
+// Where the first of those parts stands.
+pub fn first_part(s: &[u8]) -> Option<Part>
     ensures { result ≡ first_of s.now }
 {
-    let begin = skip_white(s, 0);
-    if s.len() <= begin {
-        return Part { start: 0, len: 0 };
+    let start = skip_white(s, 0);
+    if s.len() <= start {
+        return None;
     }
-    let end = skip_part(s, begin);
-    Part {
-        start: begin,
-        len: end - begin,
-    }
+    let end = skip_part(s, start);
+    Some(Part {
+        start,
+        len: end - start,
+    })
 }

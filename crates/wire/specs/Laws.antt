@@ -1,5 +1,5 @@
 -- Laws of append across the boundary.
-use Rattle.std.specs.Prelude.{ℕ, zero, suc, ◌+◌, ◌-◌, ◌*◌, ◌/◌, ◌%◌, ◌≤◌, ◌<◌, ◌≡◌, refl, List, [], ◌∷◌, ◌++◌, Bool, true, false, not, ◌&&◌, leb, eqb, length, get_or, set, take, drop}
+use Rattle.std.specs.Prelude.{ℕ, zero, suc, ◌+◌, ◌-◌, ◌*◌, ◌/◌, ◌%◌, ◌≤◌, ◌<◌, ◌≡◌, refl, List, [], ◌∷◌, ◌++◌, Bool, Option, Some, Ok, Err, true, false, not, ◌&&◌, leb, eqb, length, get_or, set, take, drop}
 use Rattle.std.proofs.Common.{arith, ◌∙◌, ap, ap₂, sym, append-nil, append_assoc, eqb-true, eq-eqb, ne_eqb, leb-true, length-append, length-drop, take-append-drop, drop_of_length-le, take_all, take_at, drop_at, drop-drop, length-take-le, get_or-take, get_or-drop}
 use Rattle.std.proofs.lemmas.Bool.{eqb-false, not-true, not-false}
 use Rattle.laws.specs.Little.{little, from_little}
@@ -8,16 +8,12 @@ use Rattle.laws.specs.Sets.{sets_copied}
 use Rattle.laws.specs.Rest.{rest}
 use Rattle.laws.specs.Tests.{and_left, and_right}
 use Rattle.append.specs.Laws as append
-use Rattle.std.proofs.Math.Seq.{take-length}
 use Rattle.std.proofs.lemmas.List.Edits.{sets-eq}
 use Rattle.append.specs.declared.Stream.{Stream}
-use Rattle.append.specs.declared.Answer.{Answer}
-use Rattle.append.specs.declared.Answer.TheVariants.{Added, Malformed}
-use Rattle.append.specs.Append.{Appends, code}
+use Rattle.append.specs.declared.Refusal.TheVariants.{Malformed}
+use Rattle.append.specs.Append.{Answer, Appends, code}
 use Rattle.stream.specs.declared.Sink.{Sink}
 use Rattle.quick.specs.Quick.{quick, Comes, on_line}
-use Rattle.quick.specs.declared.Quick.TheVariants.{Done as Laid}
-use Rattle.quick.specs.declared.Quick.{Quick}
 use Rattle.quick.specs.Laws.{Laid_is}
 use Rattle.append.specs.Lists.{Held}
 use Rattle.wire.specs.Wire.{well_formed, held, unpacked, bit_of, packed, repacked, Done, Crosses}
@@ -186,9 +182,9 @@ pub well_length : (r : List ℕ) (b : Bool) → b ≡ well_formed r → not b �
 unfolding well_formed
 well_length r b e h = eqb-true (length r) 25 (and_left (eqb (length r) 25) (leb (byte_of r 0) 1) (sym e ∙ not-false b h))
 
-pub not_well : (r out : List ℕ) (token : ℕ) (value : List ℕ) (b : Bool) (answer : ℕ) → b ≡ well_formed r → not b ≡ true → answer ≡ code Malformed → Crosses r out token value answer r out
+pub not_well : (r out : List ℕ) (token : ℕ) (value : List ℕ) (b : Bool) (answer : ℕ) → b ≡ well_formed r → not b ≡ true → answer ≡ code (Err Malformed) → Crosses r out token value answer r out
 not_well r out token value b answer e h a =
-    record { verdict = Malformed; left = unpacked r; done = rw (← e, not-true b h) (refl, (refl, refl)); answers = a; leaves = refl }
+    record { verdict = Err Malformed; left = unpacked r; done = rw (← e, not-true b h) (refl, (refl, refl)); answers = a; leaves = refl }
 
 pub well : (r out : List ℕ) (token : ℕ) (value : List ℕ) (b : Bool) (s t : Stream) (a : Answer) (answer : ℕ) (r' out' : List ℕ) → b ≡ well_formed r → not b ≡ false → s ≡ unpacked r
     → Appends s out token value a t out' → answer ≡ code a → r' ≡ repacked a t r → Crosses r out token value answer r' out'
@@ -205,7 +201,7 @@ pub laid_crosses : (r out : List ℕ) (token : ℕ) (value : List ℕ) (rec : St
     → Laid_is rec out token value s out' → n ≡ s.at - rec.count → r' ≡ packed (on_line (unpacked r) s) → Crosses r out token value n r' out'
 unfolding code
 laid_crosses r out token value rec s n r' out' w u a e p =
-    well r out token value true rec (on_line rec s) (Added (s.at - rec.count)) n r' out' (sym w) refl u a.appends (omega (arith, e)) (rw (← u) at p)
+    well r out token value true rec (on_line rec s) (Ok (s.at - rec.count)) n r' out' (sym w) refl u a.appends (omega (arith, e)) (rw (← u) at p)
 
 -- a record whose line and column are within the count
 pub is_held : (rec : Stream) → held rec ≡ true → Held rec
@@ -224,10 +220,10 @@ may_be_laid r rec at w u h on = (w, (ap (λ (t : Stream). t.count) u, (rw (← u
 pub tried_not : (h m : Bool) → h ≡ false → h && m ≡ false
 tried_not h m e = rw e
 
-pub tried : (h m : Bool) (rec : Stream) (out bytes : List ℕ) (bit : Bool) (r : Quick) (out' : List ℕ) → h ≡ true → Comes m rec out bytes bit r out' → Comes (h && m) rec out bytes bit r out'
+pub tried : (h m : Bool) (rec : Stream) (out bytes : List ℕ) (bit : Bool) (r : Option Sink) (out' : List ℕ) → h ≡ true → Comes m rec out bytes bit r out' → Comes (h && m) rec out bytes bit r out'
 tried h m rec out bytes bit r out' e c = rw e c
 
-pub tried_done : (h m : Bool) (rec : Stream) (out bytes : List ℕ) (bit : Bool) (r : Quick) (out' : List ℕ) (s : Sink) → Comes (h && m) rec out bytes bit r out' → r ≡ Laid s
+pub tried_done : (h m : Bool) (rec : Stream) (out bytes : List ℕ) (bit : Bool) (r : Option Sink) (out' : List ℕ) (s : Sink) → Comes (h && m) rec out bytes bit r out' → r ≡ Some s
     → (h ≡ true) × Comes m rec out bytes bit r out'
 unfolding quick
 tried_done true m rec out bytes bit r out' s c e = (refl, c)

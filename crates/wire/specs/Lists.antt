@@ -1,13 +1,11 @@
 -- Tokens appended one after another as the engine calls it: a list of calls that all answer below 2^32, which is number 0, is a list of appends to the record
 -- that the bytes stand for. What a call leaves is read back by the next, since a count that is within an output fits eight bytes, and so do its line and column.
-use Rattle.std.specs.Prelude.{ℕ, zero, suc, ◌+◌, ◌/◌, ◌^◌, ◌≤◌, ◌<◌, ◌≡◌, refl, List, [], ◌∷◌, ◌++◌, Bool, true, false, eqb, length, get_or}
+use Rattle.std.specs.Prelude.{Ok, ℕ, zero, suc, ◌+◌, ◌/◌, ◌^◌, ◌≤◌, ◌<◌, ◌≡◌, refl, List, [], ◌∷◌, ◌++◌, Bool, true, false, eqb, length, get_or}
 use Rattle.std.proofs.Common.{arith, ◌∙◌, ap, sym}
 use Rattle.std.proofs.Math.Nat.{pow-zero, pow-succ'}
 use Rattle.laws.specs.Little.{little, from_little}
 use Rattle.append.specs.declared.Stream.{Stream}
-use Rattle.append.specs.declared.Answer.{Answer}
-use Rattle.append.specs.declared.Answer.TheVariants.{Added}
-use Rattle.append.specs.Append.{Appends, news, number, code}
+use Rattle.append.specs.Append.{Answer, Appends, news, number, code}
 use Rattle.append.specs.Laws.{place_small}
 use Rattle.append.specs.Lists.{Lent, tokens_of, text_from, AppendsAll, AllFine, Held, held_on, Appended, succeeds, output_length, zero_added}
 use Rattle.append.proofs.Lists.{all_succeed, appended}
@@ -65,7 +63,7 @@ packed_well s = by s.spaced
 -- ---- one call that succeeds is an append that does
 record Crossed (r out : List ℕ) (l : Lent) (r' out' : List ℕ) : Type 0 where
   n : ℕ
-  appends : Appends (unpacked r) out l.0 l.1 (Added n) (unpacked r') out'
+  appends : Appends (unpacked r) out l.0 l.1 (Ok n) (unpacked r') out'
   stays : well_formed r' ≡ true
 
 low_number : (a : Answer) → code a < 2 ^ 32 → number a ≡ 0
@@ -82,8 +80,8 @@ crossed {r} {out} {l} {answer} {r'} {out'} x low fits = by (well_formed r) x.don
     by : (b : Bool) → Done b (unpacked r) out l.0 l.1 x.verdict x.left out' → Crossed r out l r' out'
     by true d =
         let n = length (news (unpacked r) l.0 l.1) in
-        let e : x.verdict ≡ Added n = zero_added d z in
-        let a : Appends (unpacked r) out l.0 l.1 (Added n) x.left out' = rw e at d in
+        let e : x.verdict ≡ Ok n = zero_added d z in
+        let a : Appends (unpacked r) out l.0 l.1 (Ok n) x.left out' = rw e at d in
         let p : r' ≡ packed x.left = x.leaves ∙ ap (λ (v : Answer). repacked v x.left r) e in
         record { n = n; appends = rw (p, read_back x.left (omega (arith, (succeeds a).fits)) (held_on (succeeds a))) a; stays = rw p (packed_well x.left) }
     by false d = let y : number x.verdict ≡ 1 = ap number d.0 in absurd (omega arith)
@@ -112,8 +110,8 @@ unfolding code
 calls no-append r w e fits = (r, none)
 calls {rec} {out} (one-append {mid = mid} {o = o} {l = l} {n = n} x xs) r w e fits =
     let rest = calls xs (packed mid) (packed_well mid) (sym (read_back mid (omega (arith, (succeeds x).fits)) (held_on (succeeds x)))) (omega (arith, output_length (succeeds x))) in
-    let c : Crosses r out l.0 l.1 (code (Added n)) (packed mid) o = well r out l.0 l.1 true rec mid (Added n) (code (Added n)) (packed mid) o (sym w) refl e x refl refl in
-    (rest.0, one c (omega (arith, place_small rec out l.0 l.1 (Added n) mid o x)) rest.1)
+    let c : Crosses r out l.0 l.1 (code (Ok n)) (packed mid) o = well r out l.0 l.1 true rec mid (Ok n) (code (Ok n)) (packed mid) o (sym w) refl e x refl refl in
+    (rest.0, one c (omega (arith, place_small rec out l.0 l.1 (Ok n) mid o x)) rest.1)
 
 pub all_cross : (r out : List ℕ) {ls : List Lent} → well_formed r ≡ true → Held (unpacked r) → AllFine ls → (unpacked r).count + length (text_from (unpacked r) ls) ≤ length out → length out < 2 ^ 64
     → (r' : List ℕ) × (out' : List ℕ) × CrossesAll r out ls r' out'

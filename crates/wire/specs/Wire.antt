@@ -1,10 +1,9 @@
 -- 01, sections 3 and 9, and 02, ix: append as the engine calls it, with the record as 25 bytes and the answer as one number.
-use Rattle.std.specs.Prelude.{ℕ, ◌≡◌, List, ◌∷◌, ◌++◌, Bool, true, false, ◌&&◌, leb, eqb, length, get_or, take, drop}
+use Rattle.std.specs.Prelude.{ℕ, ◌≡◌, List, ◌∷◌, ◌++◌, Bool, Ok, Err, true, false, ◌&&◌, leb, eqb, length, get_or, take, drop}
 use Rattle.laws.specs.Little.{little, from_little}
 use Rattle.append.specs.declared.Stream.{Stream}
-use Rattle.append.specs.declared.Answer.{Answer}
-use Rattle.append.specs.declared.Answer.TheVariants.{Added, Malformed, Unknown, TooLong, Broken, NoRoom}
-use Rattle.append.specs.Append.{Appends, code}
+use Rattle.append.specs.declared.Refusal.TheVariants.{Malformed}
+use Rattle.append.specs.Append.{Answer, Appends, code}
 
 -- "a lent record crosses as [bytes] (0 or 1, then the count, little-endian; all else is malformed)"; 02: line and column "as bytes, 8 each, after the count"
 unfoldable pub well_formed : List ℕ → Bool
@@ -32,17 +31,13 @@ held rec = leb rec.line rec.count && leb rec.column rec.count
 
 -- the record's bytes afterwards: those of the record left, and on a refusal as they were
 abbrev pub repacked : Answer → Stream → List ℕ → List ℕ
-repacked (Added n) rec r = packed rec
-repacked Malformed rec r = r
-repacked Unknown rec r = r
-repacked TooLong rec r = r
-repacked (Broken e) rec r = r
-repacked (NoRoom n) rec r = r
+repacked (Ok n) rec r = packed rec
+repacked (Err a) rec r = r
 
 -- what is done with a record that is well formed, or not
 abbrev pub Done : Bool → Stream → List ℕ → ℕ → List ℕ → Answer → Stream → List ℕ → Type 0
 Done true rec out token value a rec' out' = Appends rec out token value a rec' out'
-Done false rec out token value a rec' out' = (a ≡ Malformed) × ((rec' ≡ rec) × (out' ≡ out))
+Done false rec out token value a rec' out' = (a ≡ Err Malformed) × ((rec' ≡ rec) × (out' ≡ out))
 
 -- what the call does: from the record's bytes, output, token word and value to the answer's number, the record's bytes and the output
 pub record Crosses (r out : List ℕ) (token : ℕ) (value : List ℕ) (answer : ℕ) (r' out' : List ℕ) : Type 0 where

@@ -11,8 +11,7 @@ ghost use Rattle.quick.specs.Quick.{many_may, Comes, on_line};
 ghost use Rattle.append.specs.Append.{place as place', code as code', news, token_of};
 ghost use Rattle.wire.specs.Wire.{well_formed as well_formed', held as held', unpacked, bit_of, packed, repacked, Crosses};
 
-use append::{Answer, Stream};
-use quick::Quick;
+use append::{Answer, Refusal, Stream};
 use stream::Sink;
 
 // All places are below this number.
@@ -28,8 +27,8 @@ const LINE: usize = 9;
 
 const COLUMN: usize = 17;
 
-// The bytes of a number are read in two halves of so many.
-const HALF: usize = 4;
+// The bytes of a number.
+const NUMBER: usize = 8;
 
 // A number of 01's table and a place as one number.
 fn joined(number: u64, place: u64) -> u64
@@ -64,30 +63,14 @@ fn held(s: Stream) -> bool
     (s.line <= s.count) & (s.column <= s.count)
 }
 
-// The number of the first four bytes, the lowest first.
-fn half(s: &[u8]) -> u64
-    requires { 4 ≤ length s.now }
-    ensures { (result ≡ from_little (take 4 s.now)) × (result < 2 ^ 32) }
-{
-    s[0] as u64 + 256 * (s[1] as u64 + 256 * (s[2] as u64 + 256 * s[3] as u64))
-}
-
-// The number of the first eight bytes. It is a function of its own so that the compiler reads them at once.
-fn whole(s: &[u8]) -> u64
-    requires { 8 ≤ length s.now }
-    ensures { result ≡ from_little (take 8 s.now) }
-{
-    let low = half(s);
-    let high = half(&s[HALF..]);
-    low + 0x1_0000_0000 * high
-}
-
-// The number of the eight bytes from a place on.
+// The number of the eight bytes from a place on, the lowest first.
 fn number_at(rec: &[u8], at: usize) -> u64
     requires { at + 8 ≤ length rec.now }
     ensures { result ≡ from_little (take 8 (drop at rec.now)) }
 {
-    whole(&rec[at..])
+    let mut bytes = [0u8; NUMBER];
+    bytes.copy_from_slice(&rec[at..at + NUMBER]);
+    u64::from_le_bytes(bytes)
 }
 
 // The record of its bytes.
@@ -103,50 +86,19 @@ fn unpack(rec: &[u8]) -> Stream
     }
 }
 
-// The lowest byte of a number.
-fn low(n: u64) -> u8
-    ensures { result ≡ n % 256 }
-{
-    (n % 256) as u8
-}
-
 // The byte of the bit.
 fn bit(spaced: bool) -> u8
     ensures { result ≡ bit_of spaced }
 {
-    if spaced { 1 } else { 0 }
+    u8::from(spaced)
 }
 
-// The eight bytes of a number, the lowest first.
-fn eight(n0: u64) -> [u8; 8]
-    ensures { result ≡ little 8 n0 }
-{
-    let n1 = n0 / 256;
-    let n2 = n1 / 256;
-    let n3 = n2 / 256;
-    let n4 = n3 / 256;
-    let n5 = n4 / 256;
-    let n6 = n5 / 256;
-    let n7 = n6 / 256;
-    [
-        low(n0),
-        low(n1),
-        low(n2),
-        low(n3),
-        low(n4),
-        low(n5),
-        low(n6),
-        low(n7),
-    ]
-}
-
-// A number's bytes are written over the eight from a place on.
+// A number's bytes, the lowest first, are written over the eight from a place on.
 fn put_number(rec: &mut [u8], at: usize, n: u64)
     requires { at + 8 ≤ length rec.old }
     ensures { rec.new ≡ take at rec.old ++ (little 8 n ++ drop 8 (drop at rec.old)) }
 {
-    let bytes = eight(n);
-    rec[at..at + bytes.len()].copy_from_slice(&bytes);
+    rec[at..at + NUMBER].copy_from_slice(&n.to_le_bytes());
 }
 
 // The record's bytes are written.
@@ -166,12 +118,8 @@ fn repack(rec: &mut [u8], a: Answer, s: Stream)
     ensures { rec.new ≡ repacked a s rec.old }
 {
     match a {
-        Answer::Added(_) => pack(rec, s),
-        Answer::Malformed => {}
-        Answer::Unknown => {}
-        Answer::TooLong => {}
-        Answer::Broken(_) => {}
-        Answer::NoRoom(_) => {}
+        Ok(_) => pack(rec, s),
+        Err(_) => {}
     }
 }
 
@@ -204,11 +152,11 @@ fn asked(rec: &mut [u8], out: &mut [u8], token: u16, value: &[u8]) -> u64
 }
 
 // A long value is laid at once where it may be.
-fn long_tried(rec: Stream, out: &mut [u8], token: u16, value: &[u8]) -> Quick
+fn long_tried(rec: Stream, out: &mut [u8], token: u16, value: &[u8]) -> Option<Sink>
     ensures { Comes (held' rec && many_may rec (length out.old) token value.now) rec out.old (news rec token value.now) (leaves rec.spaced (token_of token value.now)) result out.new }
 {
     if !held(rec) {
-        return Quick::Not;
+        return None;
     }
     quick::long_alone(rec, out, token, value)
 }
@@ -222,8 +170,8 @@ fn checked(rec: &mut [u8], out: &mut [u8], token: u16, value: &[u8]) -> u64
     let before = unpack(rec);
     let q = long_tried(before, out, token, v);
     match q {
-        Quick::Done(s) => laid(rec, before.count, s),
-        Quick::Not => asked(rec, out, token, v),
+        Some(s) => laid(rec, before.count, s),
+        None => asked(rec, out, token, v),
     }
 }
 
@@ -235,8 +183,8 @@ fn bare(rec: &mut [u8], out: &mut [u8], token: u16, value: &[u8]) -> u64
     let before = unpack(rec);
     let q = quick::word_alone(before, out, token);
     match q {
-        Quick::Done(s) => laid(rec, before.count, s),
-        Quick::Not => checked(rec, out, token, value),
+        Some(s) => laid(rec, before.count, s),
+        None => checked(rec, out, token, value),
     }
 }
 
@@ -248,17 +196,19 @@ fn valued(rec: &mut [u8], out: &mut [u8], token: u16, value: &[u8]) -> u64
     let before = unpack(rec);
     let q = quick::value_alone(before, out, token, value);
     match q {
-        Quick::Done(s) => laid(rec, before.count, s),
-        Quick::Not => checked(rec, out, token, value),
+        Some(s) => laid(rec, before.count, s),
+        None => checked(rec, out, token, value),
     }
 }
 
-// Appends one token: 01's append, with the record as 25 bytes. Answers number * 2^32 + place.
+// Appends one token: 01's append, with the record as 25 bytes. Answers number * 2^32 + place. It stays a function of its own, so that the export, which mends
+// the places of three slices, saves no register: inlined there, append over the schema takes 1,199,886 instructions in place of 1,133,872.
+#[inline(never)]
 pub fn append(rec: &mut [u8], out: &mut [u8], token: u16, value: &[u8]) -> u64
     ensures { Crosses rec.old out.old token value.now result rec.new out.new }
 {
     if !well_formed(rec) {
-        return code(Answer::Malformed);
+        return code(Err(Refusal::Malformed));
     }
     if !held(unpack(rec)) {
         return checked(rec, out, token, value);

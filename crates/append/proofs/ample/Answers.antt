@@ -1,7 +1,6 @@
 -- `append::ample` meets its contract: each test that fails answers no.
 use mathlib.Core.Bool.{false≢true}
 use native.Mathlib.Omega.{arith}
-use borrow.Author.Rules.{rules}
 use Rattle.append.proofs.ample.Goals as goal
 
 pub returns-then-size-rec : goal.returns-then-size-rec

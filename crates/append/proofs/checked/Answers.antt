@@ -8,13 +8,13 @@ put-requires c =
     let at_told = c in
     let at-any = at_told in
     let start = at-any in
-    all_ready _ start.args.out.now _ _ _ _ start.requires at-any.any_refusal-first.ensures at_told.in-Fine.is
+    all_ready _ start.args.out.now _ _ _ _ start.requires at-any.any_refusal-first.ensures at_told.in-Ok.is
 
-pub returns-in-Refused : goal.returns-in-Refused
-returns-in-Refused c = all_refused _ _ _ _ _ _ c.any_refusal-first.ensures c.in-Refused.is
+pub returns-in-Err : goal.returns-in-Err
+returns-in-Err c = all_refused _ _ _ _ _ _ c.any_refusal-first.ensures c.in-Err.is
 
-pub returns-in-Fine : goal.returns-in-Fine
-returns-in-Fine c =
+pub returns-in-Ok : goal.returns-in-Ok
+returns-in-Ok c =
     let at-put = c in
     let at_told = at-put in
-    all_accepted _ _ _ _ _ _ _ _ at_told.any_refusal-first.ensures at_told.in-Fine.is at-put.put.ensures
+    all_accepted _ _ _ _ _ _ _ _ at_told.any_refusal-first.ensures at_told.in-Ok.is at-put.put.ensures

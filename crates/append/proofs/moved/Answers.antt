@@ -1,7 +1,5 @@
 -- `append::moved` meets its contract, by that of `newlines`: no sum leaves the count, since line and column were within it and a value is within what was added.
 use native.Mathlib.Omega.{arith}
-use mathlib.Core.Path.{sym, ◌∙◌}
-use borrow.Author.Rules.{rules}
 use borrow.Author.Tests.{eq-eqb, ne_eqb}
 use Rattle.position.specs.Laws.{lines_length}
 use Rattle.append.specs.Steps.{moved_to}

@@ -16,7 +16,7 @@ overflow_sub-added c =
     let start = at-number-of in
     let held : length start.args.out.now ≤ most = search rules in
     let counts = put_counts _ _ _ _ _ _ start.requires held
-    (emits _ _ _ _ _ _ _ _ _ at-number-of.number_of.ensures at-present.present.ensures at-append.append-s.ensures) in
+    (emits _ _ _ _ _ _ _ _ _ _ at-number-of.number_of.ensures at-present.present.ensures c.then_some.ensures at-append.append-s.ensures) in
     omega (arith, counts)
 
 pub moved-left-requires : goal.moved-left-requires
@@ -27,7 +27,7 @@ moved-left-requires c =
     let start = at-number-of in
     let held : length start.args.out.now ≤ most = search rules in
     put_moves _ _ _ _ _ _ start.requires held
-    (emits _ _ _ _ _ _ _ _ _ at-number-of.number_of.ensures at-present.present.ensures at-append.append-s.ensures)
+    (emits _ _ _ _ _ _ _ _ _ _ at-number-of.number_of.ensures at-present.present.ensures c.then_some.ensures at-append.append-s.ensures)
 
 pub returns : goal.returns
 returns c =
@@ -37,4 +37,4 @@ returns c =
     let start = at-number-of in
     let held : length start.args.out.now ≤ most = search rules in
     put_all _ _ _ _ _ _ start.requires held
-    (emits _ _ _ _ _ _ _ _ _ at-number-of.number_of.ensures at-present.present.ensures at-append.append-s.ensures) _ c.moved-left.ensures
+    (emits _ _ _ _ _ _ _ _ _ _ at-number-of.number_of.ensures at-present.present.ensures c.then_some.ensures at-append.append-s.ensures) _ c.moved-left.ensures

@@ -5,7 +5,6 @@ use mathlib.Core.List.{List}
 use Rattle.spelling.specs.Table.{spelling_in}
 use Rattle.spelling.specs.Laws.{spells}
 use Rattle.append.specs.Laws.{word_is}
-use borrow.Author.Rules.{rules}
 use Rattle.append.proofs.step.Goals as goal
 
 pub checked-requires : goal.checked-requires

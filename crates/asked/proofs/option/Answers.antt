@@ -1,21 +1,36 @@
--- `asked::option` meets its contract: it goes by the definition's tests.
+-- `asked::option` meets its contract: it goes by the definition's tests, since the library compares words as `same` does.
+use Rattle.std.proofs.Common.{ℕ, ◌≡◌, List, [], ◌∷◌, Bool, true, false, nat_eq, refl, sym, ◌∙◌, arith}
+use lib.Pointwise.{pointwise}
+use Rattle.laws.specs.Bytes.{same}
+use Rattle.laws.specs.Text.{ascii}
 use Rattle.asked.specs.Words.{option_of}
 use Rattle.asked.proofs.option.Goals as goal
 
-pub returns-then-same : goal.returns-then-same
-unfolding option_of
-returns-then-same c = rw (← c.same.ensures, c.if-same.true)
+alike : (a b : List ℕ) → pointwise nat_eq a b ≡ same a b
+alike [] [] = refl
+alike [] (y ∷ b) = refl
+alike (x ∷ a) [] = refl
+alike (x ∷ a) (y ∷ b) = rw (alike a b)
 
-pub returns-then-same-2 : goal.returns-then-same-2
+told : {c : Bool} (w v u : List ℕ) → c ≡ pointwise nat_eq w v → v ≡ u → same w u ≡ c
+told w v u e f = rw (← f, e) (sym (alike w v))
+
+pub returns-then-eq : goal.returns-then-eq
 unfolding option_of
-returns-then-same-2 c =
-    let at_second = c in
-    let at-if1 = at_second in
-    rw (← at-if1.same.ensures, at-if1.if-same.false, ← at_second.same-2.ensures, c.if-same-2.true)
+returns-then-eq c = rw (told c.args.word.now c.as_slice.result.now (ascii "--strict") c.eq.ensures c.as_slice.ensures ∙ c.if-eq.true) (refl, omega arith)
+
+pub returns-then-eq-2 : goal.returns-then-eq-2
+unfolding option_of
+returns-then-eq-2 c =
+    rw (
+      told c.args.word.now c.as_slice.result.now (ascii "--strict") c.eq.ensures c.as_slice.ensures ∙ c.if-eq.false,
+      told c.args.word.now c.as_slice-2.result.now (ascii "--sqlite") c.eq-2.ensures c.as_slice-2.ensures ∙ c.if-eq-2.true,
+    ) (refl, omega arith)
 
 pub returns : goal.returns
 unfolding option_of
 returns c =
-    let at_second = c in
-    let at-if1 = at_second in
-    rw (← at-if1.same.ensures, at-if1.if-same.false, ← at_second.same-2.ensures, c.if-same-2.false)
+    rw (
+      told c.args.word.now c.as_slice.result.now (ascii "--strict") c.eq.ensures c.as_slice.ensures ∙ c.if-eq.false,
+      told c.args.word.now c.as_slice-2.result.now (ascii "--sqlite") c.eq-2.ensures c.as_slice-2.ensures ∙ c.if-eq-2.false,
+    )

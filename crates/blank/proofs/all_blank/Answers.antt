@@ -1,23 +1,15 @@
--- `blank::all_blank` meets its contract. A first byte past the space is none of the five. The loop's invariant: the answer for the whole value is that for what is left of it.
-use Prim.Native.Nat.{◌≤◌, ◌-◌}
-use mathlib.Core.Path.{◌≡◌}
-use native.Mathlib.Omega.{arith}
-use lib.ListN.{length, drop}
-use Rattle.blank.specs.Blank.{all_blank}
-use Rattle.blank.specs.Laws.{first_past, stops, goes_on, ends}
-use borrow.Author.Rules.{rules}
+-- `blank::all_blank` meets its contract: a first byte past the space is none of the five, and the chain asks the bytes one after the other, as the definition does.
+use Rattle.std.proofs.Common.{rules, tests, arith, ◌∙◌, sym}
+use Rattle.std.proofs.lemmas.Iterator.{YieldsList-from_slice}
+use Rattle.std.proofs.lemmas.Iterator.Search.{all_from_yields_List}
+use Rattle.blank.specs.Blank.{blank}
+use Rattle.blank.specs.Laws.{all_listed, first_past}
 use Rattle.blank.proofs.all_blank.Goals as goal
 
-pub returns-then-v-gt-SPACE : goal.returns-then-v-gt-SPACE
-returns-then-v-gt-SPACE c =
-    let at-if1 = c in
-    first_past _ at-if1.if-v-gt0.true (omega (arith, c.if-v-gt-SPACE.true))
-
-pub returns-then-not-blank : goal.returns-then-not-blank
-returns-then-not-blank c = cc (stops _ _ _ c.loop-i-test.true c.blank.ensures c.if-not-blank.true-raw)
-
-pub loop-i-preserved : goal.loop-i-preserved
-loop-i-preserved c = (search rules, cc (goes_on _ _ _ c.loop-i-test.true c.blank.ensures c.if-not-blank.false-raw))
-
 pub returns : goal.returns
-returns c = cc (ends _ _ c.loop-i-test.false)
+returns c =
+    all_from_yields_List blank _ _ c.all.result c.all.ensures.ran (YieldsList-from_slice c.args.v.now cc) (λ x b q k. search (rules, tests))
+    ∙ sym (all_listed c.args.v.now)
+
+pub returns-then-v-gt-SPACE : goal.returns-then-v-gt-SPACE
+returns-then-v-gt-SPACE c = first_past _ (search (rules, tests)) (omega (arith, c.if-v-gt-SPACE.true))

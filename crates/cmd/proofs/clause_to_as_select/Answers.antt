@@ -1,5 +1,4 @@
 -- `clause_to_as_select` writes the clause that stands there.
-use borrow.Author.Rules.{rules}
 use native.Mathlib.Omega.{arith}
 use Rattle.grammar.specs.Groups.{before_all, behind_all}
 use Rattle.pen.specs.Laws.{in_one}

@@ -1,5 +1,4 @@
 -- `clause_to_named_table_constraint` writes the clause that stands there.
-use borrow.Author.Rules.{rules}
 use native.Mathlib.Omega.{arith}
 use Rattle.pen.specs.Laws.{in_one}
 use Rattle.pen.specs.Places.{other, alike}

@@ -1,5 +1,4 @@
 -- `cmd` writes its entry, a step a call.
-use borrow.Author.Rules.{rules}
 use mathlib.Core.Path.{refl}
 use Rattle.pen.specs.Laws.{◌▹◌, same}
 use Rattle.grammar.specs.Grammar.{shape}

@@ -1,5 +1,4 @@
 -- `explain` writes its word where the flags say so.
-use borrow.Author.Rules.{rules}
 use Rattle.grammar.specs.Grammar.{explain}
 use Rattle.pen.specs.Places.{is_so, is_not}
 use Rattle.cmd.proofs.explain.Goals as goal

@@ -1,5 +1,4 @@
 -- `explain_query_plan` writes its words where the flags say so.
-use borrow.Author.Rules.{rules}
 use Rattle.grammar.specs.Grammar.{query_plan}
 use Rattle.pen.specs.Places.{is_so, is_not}
 use Rattle.cmd.proofs.explain_query_plan.Goals as goal

@@ -1,5 +1,4 @@
 -- `format_json`: each call is a step of its shape.
-use borrow.Author.Rules.{rules}
 use Rattle.pen.specs.Laws.{◌▹◌, a_said}
 use mathlib.Core.Path.{refl}
 use Rattle.cmd.proofs.format_json.Goals as goal

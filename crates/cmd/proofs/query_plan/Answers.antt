@@ -1,5 +1,4 @@
 -- `query_plan`: each call is a step of its shape.
-use borrow.Author.Rules.{rules}
 use Rattle.pen.specs.Laws.{◌▹◌}
 use Rattle.cmd.proofs.query_plan.Goals as goal
 

@@ -1,5 +1,4 @@
 -- `root` writes Cmd, the elements of a LIST, or what stands there.
-use borrow.Author.Rules.{rules}
 use mathlib.Core.Path.{refl}
 use Rattle.record.specs.Laws as records
 use Rattle.cmd.specs.Laws.{root_list, root_cmd, root_else}
@@ -12,7 +11,7 @@ returns-then-r-eq-LIST c =
     let at-pass = at-if1 in
     let at_read = at-pass in
     let at-args = at_read in
-    root_list at-args.args.text.now at-args.args.edition at_read.read-r.ensures at-pass.pass-q.ensures at-if1.if-r-eq-LIST.true at-root-elements.root_elements.ensures
+    root_list at-args.args.from.now.text.now at-args.args.from.now.edition at_read.read-r.ensures at-pass.pass-q.ensures at-if1.if-r-eq-LIST.true at-root-elements.root_elements.ensures
 
 pub returns-then-r-eq-CMD : goal.returns-then-r-eq-CMD
 returns-then-r-eq-CMD c =
@@ -21,7 +20,7 @@ returns-then-r-eq-CMD c =
     let at-pass = at-if2 in
     let at_read = at-pass in
     let at-args = at_read in
-    root_cmd at-args.args.text.now at-args.args.edition at_read.read-r.ensures at-pass.pass-q.ensures at-if2.if-r-eq-CMD.true (at-cmd.cmd.ensures _ refl)
+    root_cmd at-args.args.from.now.text.now at-args.args.from.now.edition at_read.read-r.ensures at-pass.pass-q.ensures at-if2.if-r-eq-CMD.true (at-cmd.cmd.ensures _ refl)
 
 pub returns : goal.returns
 returns c =
@@ -30,4 +29,4 @@ returns c =
     let at-if1 = at-if2 in
     let at_read = at-if1 in
     let at-args = at_read in
-    root_else at-args.args.text.now at-args.args.edition at_read.read-r.ensures at-if1.if-r-eq-LIST.false at-if2.if-r-eq-CMD.false (at-root-element.root_element.ensures records.nothing)
+    root_else at-args.args.from.now.text.now at-args.args.from.now.edition at_read.read-r.ensures at-if1.if-r-eq-LIST.false at-if2.if-r-eq-CMD.false (at-root-element.root_element.ensures records.nothing)

@@ -1,5 +1,4 @@
 -- `root_element` goes to the group that the kind is in.
-use borrow.Author.Rules.{rules}
 use Rattle.pen.specs.Places.{alike}
 use Rattle.cmd.specs.Laws.{root_stmt, root_early, root_late}
 use Rattle.cmd.proofs.root_element.Goals as goal

@@ -1,5 +1,4 @@
 -- `to_tokens` writes the tokens of the tree, from its first record on.
-use borrow.Author.Rules.{rules}
 use Rattle.cmd.specs.Laws.{all_tokens}
 use Rattle.cmd.proofs.to_tokens.Goals as goal
 

@@ -1,10 +1,7 @@
 -- `corners::dashes` looks at each two bytes: whether the rest has dashes is whether the text has.
 use borrow.Author.Rules.{rules}
 use native.Mathlib.Omega.{arith}
-use mathlib.Core.Path.{◌≡◌, refl, sym, ◌∙◌}
-use Prim.Native.Nat.{◌≤◌, ◌-◌}
-use lib.ListN.{drop}
-use Rattle.tokens.specs.Corners.{dashes}
+use mathlib.Core.Path.{refl, sym, ◌∙◌}
 use Rattle.corners.specs.Laws.{dashes_found, dashes_next, dashes_end}
 use Rattle.corners.proofs.dashes.Goals as goal
 

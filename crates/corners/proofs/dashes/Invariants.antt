@@ -1,11 +1,8 @@
 -- `corners::dashes` looks at each two bytes: whether the rest has dashes is whether the text has.
-use borrow.Author.Rules.{rules}
-use native.Mathlib.Omega.{arith}
-use mathlib.Core.Path.{◌≡◌, refl, sym, ◌∙◌}
+use mathlib.Core.Path.{◌≡◌}
 use Prim.Native.Nat.{◌≤◌, ◌-◌}
 use lib.ListN.{drop}
 use Rattle.tokens.specs.Corners.{dashes}
-use Rattle.corners.specs.Laws.{dashes_found, dashes_next, dashes_end}
 use Rattle.corners.proofs.dashes.Given as goal
 
 abbrev pub invariant-loop-i : goal.invariant-loop-i

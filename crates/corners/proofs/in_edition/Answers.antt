@@ -1,6 +1,5 @@
 -- `corners::in_edition` meets its contract: in SQLite's edition the quotes inside are doubled, and in the crate's they are not.
 use Rattle.corners.specs.Laws.{inner_doubled, inner_single}
-use borrow.Author.Rules.{rules}
 use Rattle.corners.proofs.in_edition.Goals as goal
 
 pub returns-then-sqlite : goal.returns-then-sqlite

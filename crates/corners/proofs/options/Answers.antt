@@ -1,5 +1,4 @@
 -- `corners::options` writes the options, and a comma between them where both are written.
-use borrow.Author.Rules.{rules}
 use mathlib.Core.Path.{sym, ◌∙◌}
 use borrow.Author.Tests.{not-true, not-false}
 use Rattle.corners.specs.Laws.{options_plain, options_on}

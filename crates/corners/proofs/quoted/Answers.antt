@@ -1,5 +1,4 @@
 -- `corners::quoted` writes a TEXT between quotes, as its edition has it.
-use borrow.Author.Rules.{rules}
 use Rattle.pen.specs.Laws.{appended}
 use Rattle.corners.specs.Laws.{no_quote_lem, a_quote}
 use Rattle.corners.proofs.quoted.Goals as goal
@@ -9,7 +8,7 @@ returns-then-r-ne-TEXT c d r =
     let at-pass = c in
     let at_read = at-pass in
     let at-args = at_read in
-    no_quote_lem at-args.args.text.now at_read.read-r.ensures at-pass.pass-q.ensures c.if-r-ne-TEXT.true
+    no_quote_lem at-args.args.from.now.text.now at_read.read-r.ensures at-pass.pass-q.ensures c.if-r-ne-TEXT.true
 
 pub returns : goal.returns
 returns c d r =
@@ -20,4 +19,4 @@ returns c d r =
     let at-pass = at-if1 in
     let at_read = at-pass in
     let at-args = at_read in
-    a_quote at-args.args.text.now at_read.read-r.ensures at-pass.pass-q.ensures at-if1.if-r-ne-TEXT.false at_part.part-value.ensures (appended at_of.of.ensures at-quoted.in_edition-s.ensures)
+    a_quote at-args.args.from.now.text.now at_read.read-r.ensures at-pass.pass-q.ensures at-if1.if-r-ne-TEXT.false at_part.part-value.ensures (appended at_of.of.ensures at-quoted.in_edition-s.ensures)

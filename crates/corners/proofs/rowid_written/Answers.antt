@@ -1,5 +1,4 @@
 -- `corners::rowid_written` meets its contract: a TEXT of two parts is written.
-use borrow.Author.Rules.{rules}
 use Rattle.corners.specs.Laws.{no_rowid, a_rowid_written}
 use Rattle.corners.proofs.rowid_written.Goals as goal
 

@@ -1,5 +1,4 @@
 -- `corners::source` writes the expression, or the source behind it.
-use borrow.Author.Rules.{rules}
 use Rattle.corners.specs.Laws.{the_run, the_source}
 use Rattle.corners.proofs.source.Goals as goal
 
@@ -10,7 +9,7 @@ returns-then-r c d r =
     let at_read = at-if1 in
     let at-run = at_read in
     let at-args = at-run in
-    the_run at-args.args.text.now (at-run.run-behind.ensures d r) at_read.read-r.ensures at-if1.if-r.true (at-run2.run-q.ensures d r) c.pass.ensures
+    the_run at-args.args.from.now.text.now (at-run.run-behind.ensures d r) at_read.read-r.ensures at-if1.if-r.true (at-run2.run-q.ensures d r) c.pass.ensures
 
 pub returns : goal.returns
 returns c d r =
@@ -21,4 +20,4 @@ returns c d r =
     let at_read = at-if1 in
     let at-run = at_read in
     let at-args = at-run in
-    the_source at-args.args.text.now (at-run.run-behind.ensures d r) at_read.read-r.ensures at-if1.if-r.false at_part.part.ensures at-pass2.pass-q.ensures at-sourced.sourced.ensures
+    the_source at-args.args.from.now.text.now (at-run.run-behind.ensures d r) at_read.read-r.ensures at-if1.if-r.false at_part.part.ensures at-pass2.pass-q.ensures at-sourced.sourced.ensures

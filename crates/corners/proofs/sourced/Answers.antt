@@ -1,5 +1,4 @@
 -- `corners::sourced` writes the source, and a newline behind dashes.
-use borrow.Author.Rules.{rules}
 use Rattle.corners.specs.Laws.{no_dashes, with_dashes}
 use Rattle.corners.proofs.sourced.Goals as goal
 

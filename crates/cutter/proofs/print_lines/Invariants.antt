@@ -1,13 +1,13 @@
--- `cutter::print_lines` is safe and ends. The loop's invariant: the rest lies in the text, and what is used in the output. With each turn the rest is
--- shorter, or the reading does not go on.
+-- `cutter::print_lines` is safe and ends. The loop's invariant: the rest lies in the text. With each turn the rest is shorter, or the reading does not
+-- go on.
 use Prim.Native.Nat.{◌+◌, ◌*◌, ◌≤◌}
-use mathlib.Core.Path.{◌≡◌}
 use lib.ListN.{length}
+use Rattle.reader.specs.Kinds.{number_of}
 use Rattle.reader.specs.Turns.{going}
 use Rattle.cutter.proofs.print_lines.Given as goal
 
-abbrev pub invariant-loop-kind : goal.invariant-loop-kind
-invariant-loop-kind l = ((length l.out ≡ 4096) × (l.used ≤ 4096)) × (length l.rest ≤ length l.text)
+abbrev pub invariant-loop-rest : goal.invariant-loop-rest
+invariant-loop-rest l = length l.rest ≤ length l.text
 
-abbrev pub decreases-loop-kind : goal.decreases-loop-kind
-decreases-loop-kind l = 2 * length l.rest + going l.kind
+abbrev pub decreases-loop-rest : goal.decreases-loop-rest
+decreases-loop-rest l = 2 * length l.rest + going (number_of l.kind)

@@ -1,13 +1,8 @@
 -- `decimal::fill` meets its contract. The loop's invariant: the columns that are left, stored from `at` on, make the output what it has to be.
-use Prim.Native.Nat.{◌+◌, ◌-◌, ◌^◌, ◌≤◌, ◌<◌}
 use native.Mathlib.Omega.{arith}
-use mathlib.Core.Path.{◌≡◌, ◌∙◌}
-use lib.Seq.{sets}
-use Rattle.decimal.specs.Decimal.{natural}
+use mathlib.Core.Path.{◌∙◌}
 use Rattle.decimal.specs.Laws.{length_some}
-use Rattle.decimal.proofs.Columns.{columns}
 use Rattle.decimal.proofs.Turns.{fill_start, take_fits, fill_turn, fill_one, fill_last}
-use borrow.Author.Rules.{rules}
 use Rattle.decimal.proofs.fill.Goals as goal
 
 pub loop-at-init : goal.loop-at-init

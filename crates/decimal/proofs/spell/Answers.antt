@@ -1,7 +1,6 @@
 -- `decimal::spell` meets its contract: the digits stand behind the sign, and zero bytes behind them.
 use native.Mathlib.Omega.{arith}
 use Rattle.decimal.proofs.Whole.{within, fits, spelled}
-use borrow.Author.Rules.{rules}
 use Rattle.decimal.proofs.spell.Goals as goal
 
 pub count-requires : goal.count-requires

@@ -1,8 +1,6 @@
 -- `decimal::take` meets its contract. The loop's invariant: what was taken off and the rest are the number.
-use Prim.Native.Nat.{◌+◌, ◌*◌}
 use native.Mathlib.Omega.{arith}
 use native.Mathlib.Nat.{lt_of_mul-lt-mul_right}
-use mathlib.Core.Path.{◌≡◌}
 use Rattle.decimal.proofs.take.Goals as goal
 
 pub overflow_add-digit : goal.overflow_add-digit

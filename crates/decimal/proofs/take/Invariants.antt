@@ -1,7 +1,5 @@
 -- `decimal::take` meets its contract. The loop's invariant: what was taken off and the rest are the number.
 use Prim.Native.Nat.{◌+◌, ◌*◌}
-use native.Mathlib.Omega.{arith}
-use native.Mathlib.Nat.{lt_of_mul-lt-mul_right}
 use mathlib.Core.Path.{◌≡◌}
 use Rattle.decimal.proofs.take.Given as goal
 

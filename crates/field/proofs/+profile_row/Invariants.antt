@@ -14,8 +14,6 @@ abbrev pub decreases-profile_row : goal.decreases-profile_row
 decreases-profile_row l = l.left
 
 -- whatever places they are, some of them are left
-abbrev pub invariant-loop-rest : goal.invariant-loop-rest
-invariant-loop-rest l = (cs : List Class) → map nodes_at cs ≡ codes l.nodes l.n → Going l.tree l.index (map (place (25 - l.left)) cs) l.left l.next l.row l.rest
-
-abbrev pub decreases-loop-rest : goal.decreases-loop-rest
-decreases-loop-rest l = l.rest
+abbrev pub invariant-loop-child : goal.invariant-loop-child
+invariant-loop-child l =
+    (cs : List Class) → map nodes_at cs ≡ codes l.nodes l.n → Going l.tree l.index (map (place (25 - l.left)) cs) l.left l.next l.row (l.n - l._child)

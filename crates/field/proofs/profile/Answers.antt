@@ -1,34 +1,21 @@
 -- `field::profile` meets its contract: measure's refusal is the verdict; and else the walk over the records, which the check finds sound, comes to the
 -- first that breaks the profile, or to none.
-use native.Mathlib.Omega.{arith}
+use Rattle.std.specs.Prelude.{refl}
+use Rattle.std.proofs.Common.{arith}
+use Rattle.std.proofs.lemmas.Result.{err_from_is_err_and}
 use Rattle.field.specs.Laws.{led, found_is, told_refused, told_unfit, told_fit}
-use mathlib.Core.Path.{◌∙◌, sym}
 use Rattle.field.proofs.profile.Goals as goal
 
-pub returns-then-number-ne0 : goal.returns-then-number-ne0
-returns-then-number-ne0 c =
-    let at-number = c in
-    told_refused at-number.measure-measured.ensures _ at-number.number.ensures c.if-number-ne0.true
+pub returns-in_err-length : goal.returns-in_err-length
+returns-in_err-length c =
+    let p = err_from_is_err_and c.from_residual.result c.from_residual.ensures.1 in
+    rw (p.1, p.2) (told_refused _ c.in_err-length.ensures)
 
-pub profile_row-found-requires : goal.profile_row-found-requires
-profile_row-found-requires c =
-    let at-number = c in
-    (omega arith, led at-number.measure-measured.ensures (sym at-number.number.ensures ∙ c.if-number-ne0.false))
+pub profile_row-requires : goal.profile_row-requires
+profile_row-requires c = (omega arith, led c.in_ok-length.ensures refl)
 
-pub returns-then-found : goal.returns-then-found
-returns-then-found c =
-    let at_row = c in
-    let at-number = at_row in
-    let measures = at-number.measure-measured.ensures in
-    let is = at-number.number.ensures in
-    let z = at_row.if-number-ne0.false in
-    told_unfit measures _ is z (found_is measures (sym is ∙ z) at_row.profile_row-found.ensures) c.if-found.true
+pub returns-in-Ok : goal.returns-in-Ok
+returns-in-Ok c = told_fit c.in_ok-length.ensures _ (found_is c.in_ok-length.ensures refl _ c.in-Ok.ensures)
 
-pub returns : goal.returns
-returns c =
-    let at_row = c in
-    let at-number = at_row in
-    let measures = at-number.measure-measured.ensures in
-    let is = at-number.number.ensures in
-    let z = at_row.if-number-ne0.false in
-    told_fit measures _ is z (found_is measures (sym is ∙ z) at_row.profile_row-found.ensures) c.if-found.false
+pub returns-in-Err : goal.returns-in-Err
+returns-in-Err c = told_unfit c.in_ok-length.ensures _ (found_is c.in_ok-length.ensures refl _ c.in-Err.ensures)

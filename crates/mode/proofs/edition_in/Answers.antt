@@ -1,7 +1,6 @@
 -- `mode::edition_in` meets its contract: it goes by the definition's bit.
 use borrow.Author.Tests.{eq-eqb, ne_eqb}
 use Rattle.mode.specs.Options.{edition_of}
-use borrow.Author.Rules.{rules}
 use Rattle.mode.proofs.edition_in.Goals as goal
 
 pub returns-then-options-eq1 : goal.returns-then-options-eq1

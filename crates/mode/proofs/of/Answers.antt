@@ -3,7 +3,6 @@ use native.Mathlib.Omega.{arith}
 use Prim.Native.Nat.{◌/◌, ◌^◌}
 use mathlib.Core.Path.{◌≡◌}
 use Rattle.mode.specs.Options.{mode_of}
-use borrow.Author.Rules.{rules}
 use Rattle.mode.proofs.of.Goals as goal
 
 pub returns : goal.returns

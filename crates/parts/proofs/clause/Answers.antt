@@ -1,5 +1,4 @@
 -- `parts::clause` passes over NONE.
-use borrow.Author.Rules.{rules}
 use Rattle.pen.specs.Laws.{◌▹◌}
 use Rattle.pen.specs.Places.{given_none, given_some, optional}
 use Rattle.parts.proofs.clause.Goals as goal

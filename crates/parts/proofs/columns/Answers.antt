@@ -1,5 +1,4 @@
 -- `parts::columns` passes over an empty LIST.
-use borrow.Author.Rules.{rules}
 use Rattle.pen.specs.Places.{filled_none, filled_some}
 use Rattle.parts.proofs.columns.Goals as goal
 

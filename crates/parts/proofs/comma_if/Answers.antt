@@ -1,5 +1,4 @@
 -- `parts::comma_if` writes the comma, or nothing.
-use borrow.Author.Rules.{rules}
 use Rattle.pen.specs.Rows.{nothing}
 use Rattle.parts.proofs.comma_if.Goals as goal
 

@@ -1,34 +1,12 @@
--- `parts::ended` writes a row of RUNs, a line each: what is left of it from here is what was to be written at the start.
-use borrow.Author.Rules.{rules}
-use mathlib.Core.Path.{◌≡◌, refl, ◌∙◌}
-use mathlib.Core.List.{[]}
-use Prim.Native.Nat.{ℕ}
-use Rattle.mode.specs.declared.Edition.{Edition}
-use Rattle.mode.specs.declared.Edition.TheVariants.{Crate}
+-- `parts::ended` writes a RUN and its line's end.
 use Rattle.record.specs.Laws as records
-use Rattle.tokens.specs.Tokens.{rows, means}
-use Rattle.pen.specs.Pen.{source_of, source, put}
-use Rattle.pen.specs.Laws.{◌▹◌, puts_length}
-use Rattle.pen.specs.Rows.{nothing, row_first, row_done}
-use Rattle.parts.specs.Runs.{ended}
+use Rattle.tokens.specs.Tokens.{means}
+use Rattle.pen.specs.Laws.{◌▹◌}
 use Rattle.parts.proofs.ended.Goals as goal
 
-pub loop-rest-init : goal.loop-rest-init
-loop-rest-init c d v = refl
-
-pub loop-rest-preserved : goal.loop-rest-preserved
-unfolding means
-loop-rest-preserved c d v =
-    let at-line = c in
-    let at-run = at-line in
-    let at-loop-test = at-run in
-    let at-loop = at-loop-test in
-    row_first _ _ _ _ at-loop-test.loop-rest-test.true nothing ((at-run.run-q.ensures d records.nothing ▹ at-line.line-q.ensures _ d records.nothing).puts v) ∙ at-loop.loop-rest.invariant d v
-
 pub returns : goal.returns
+unfolding means
 returns c d v =
-    let at-loop = c in
-    row_done _ _ _ _ c.loop-rest-test.false (at-loop.loop-rest.invariant d v)
-
-pub shape_of-out : goal.shape_of-out
-shape_of-out c = puts_length (returns c 0 Crate)
+    let at_line = c in
+    let at_run = at_line in
+    (at_run.run-q.ensures d records.nothing ▹ at_line.line.ensures _ d records.nothing).puts v

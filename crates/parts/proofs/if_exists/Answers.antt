@@ -1,5 +1,4 @@
 -- `parts::if_exists` writes its words under the flag.
-use borrow.Author.Rules.{rules}
 use Rattle.pen.specs.Laws.{◌▹◌}
 use Rattle.pen.specs.Places.{under, not_under}
 use Rattle.parts.proofs.if_exists.Goals as goal

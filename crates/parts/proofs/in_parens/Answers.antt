@@ -1,5 +1,4 @@
 -- `parts::in_parens`: each call is a step of its shape.
-use borrow.Author.Rules.{rules}
 use Rattle.pen.specs.Laws.{◌▹◌}
 use Rattle.parts.proofs.in_parens.Goals as goal
 

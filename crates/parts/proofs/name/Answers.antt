@@ -1,5 +1,4 @@
 -- `parts::name` writes a TEXT as TK_ID.
-use borrow.Author.Rules.{rules}
 use Rattle.grammar.specs.Slots.{allowed}
 use borrow.Author.Tests.{ne_eqb}
 use Rattle.pen.specs.Places.{not_placed, text_on}

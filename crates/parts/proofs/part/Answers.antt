@@ -1,5 +1,4 @@
 -- `parts::part` meets its contract: none of the part is there, some of it, or all.
-use borrow.Author.Rules.{rules}
 use Rattle.parts.specs.Laws.{part_none, part_rest, part_whole}
 use Rattle.parts.proofs.part.Goals as goal
 

@@ -1,5 +1,4 @@
 -- `parts::run` writes what `run_from` writes for the pen's fields.
-use borrow.Author.Rules.{rules}
 use Rattle.parts.proofs.run.Goals as goal
 
 pub returns : goal.returns

@@ -1,5 +1,4 @@
 -- `parts::said_clause` passes over NONE.
-use borrow.Author.Rules.{rules}
 use Rattle.parts.specs.Laws.{said_none, said_some}
 use Rattle.parts.proofs.said_clause.Goals as goal
 
@@ -8,7 +7,7 @@ returns-then-r-eq-NONE c =
     let at-if1 = c in
     let at_read = at-if1 in
     let at-args = at_read in
-    said_none at-args.args.text.now at_read.read-r.ensures at-if1.if-r-eq-NONE.true c.pass.ensures
+    said_none at-args.args.from.now.text.now at_read.read-r.ensures at-if1.if-r-eq-NONE.true c.pass.ensures
 
 pub returns : goal.returns
 returns c =
@@ -17,4 +16,4 @@ returns c =
     let at-if1 = at-said in
     let at_read = at-if1 in
     let at-args = at_read in
-    said_some at-args.args.text.now at_read.read-r.ensures at-if1.if-r-eq-NONE.false at-said.said-q.ensures at-run.run.ensures
+    said_some at-args.args.from.now.text.now at_read.read-r.ensures at-if1.if-r-eq-NONE.false at-said.said-q.ensures at-run.run.ensures

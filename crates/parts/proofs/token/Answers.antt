@@ -1,6 +1,5 @@
 -- `parts::token` writes the token that the record is, without a value or with one.
 use native.Mathlib.Omega.{arith}
-use borrow.Author.Rules.{rules}
 use Rattle.grammar.specs.Kind.{TOKEN}
 use Rattle.parts.specs.Laws.{of_other, bare_token, valued_token}
 use Rattle.parts.proofs.token.Goals as goal
@@ -10,7 +9,7 @@ returns-then-r-ne-TOKEN c =
     let at-pass = c in
     let at_read = at-pass in
     let at-args = at_read in
-    of_other at-args.args.text.now TOKEN at_read.read-r.ensures at-pass.pass-q.ensures _ c.if-r-ne-TOKEN.true
+    of_other at-args.args.from.now.text.now TOKEN at_read.read-r.ensures at-pass.pass-q.ensures _ c.if-r-ne-TOKEN.true
 
 pub returns-then-r-lt-PRESENT : goal.returns-then-r-lt-PRESENT
 returns-then-r-lt-PRESENT c =
@@ -20,7 +19,7 @@ returns-then-r-lt-PRESENT c =
     let at-pass = at-if1 in
     let at_read = at-pass in
     let at-args = at_read in
-    bare_token at-args.args.text.now at_read.read-r.ensures at-pass.pass-q.ensures at-if1.if-r-ne-TOKEN.false (omega (arith, at-if2.if-r-lt-PRESENT.true))
+    bare_token at-args.args.from.now.text.now at_read.read-r.ensures at-pass.pass-q.ensures at-if1.if-r-ne-TOKEN.false (omega (arith, at-if2.if-r-lt-PRESENT.true))
     at_bare.bare.ensures
 
 pub returns : goal.returns
@@ -32,5 +31,5 @@ returns c =
     let at-pass = at-if1 in
     let at_read = at-pass in
     let at-args = at_read in
-    valued_token at-args.args.text.now at_read.read-r.ensures at-pass.pass-q.ensures at-if1.if-r-ne-TOKEN.false (omega (arith, at-if2.if-r-lt-PRESENT.false))
+    valued_token at-args.args.from.now.text.now at_read.read-r.ensures at-pass.pass-q.ensures at-if1.if-r-ne-TOKEN.false (omega (arith, at-if2.if-r-lt-PRESENT.false))
     at_part.part-value.ensures at-valued.valued.ensures

@@ -1,30 +1,26 @@
 -- `parts::tokens` writes a row of TOKENs: what is left of it from here is what was to be written at the start.
-use borrow.Author.Rules.{rules}
-use mathlib.Core.Path.{◌≡◌, refl, ◌∙◌}
+use mathlib.Core.Path.{refl, ◌∙◌}
 use mathlib.Core.List.{[]}
-use Rattle.mode.specs.declared.Edition.{Edition}
 use Rattle.mode.specs.declared.Edition.TheVariants.{Crate}
-use Rattle.tokens.specs.Tokens.{rows}
-use Rattle.pen.specs.Pen.{source_of, source, put}
-use Rattle.pen.specs.Places.{token_at}
 use Rattle.pen.specs.Laws.{puts_length}
-use Rattle.pen.specs.Rows.{nothing, row_first, row_done}
+use Rattle.pen.specs.Rows.{nothing, row_next, row_end}
+use Rattle.std.proofs.Math.Nat.{sub-zero}
 use Rattle.parts.proofs.tokens.Goals as goal
 
-pub loop-rest-preserved : goal.loop-rest-preserved
-loop-rest-preserved c v =
+pub loop-preserved : goal.loop-preserved
+loop-preserved c v =
     let at-token = c in
     let at-loop-test = at-token in
     let at-loop = at-loop-test in
-    row_first _ [] [] _ at-loop-test.loop-rest-test.true nothing (at-token.token-q.ensures v) ∙ at-loop.loop-rest.invariant v
+    row_next _ [] [] _ _ at-loop-test.loop-test.true nothing (at-token.token-t.ensures v) ∙ at-loop.loop.invariant v
 
 pub returns : goal.returns
 returns c v =
     let at-loop = c in
-    row_done _ [] [] _ c.loop-rest-test.false (at-loop.loop-rest.invariant v)
+    row_end _ [] [] _ _ c.loop-test.false (at-loop.loop.invariant v)
 
-pub loop-rest-init : goal.loop-rest-init
-loop-rest-init c v = refl
+pub loop-init : goal.loop-init
+loop-init c v = rw sub-zero refl
 
 pub shape_of-out : goal.shape_of-out
 shape_of-out c = puts_length (returns c Crate)

@@ -1,5 +1,4 @@
 -- `parts::word_if` writes its word under the flag.
-use borrow.Author.Rules.{rules}
 use Rattle.pen.specs.Places.{under, not_under}
 use Rattle.parts.proofs.word_if.Goals as goal
 

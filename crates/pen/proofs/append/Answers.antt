@@ -1,5 +1,4 @@
 -- `pen::append` meets its contract: one step of the stream, with the spelling that is looked up.
-use borrow.Author.Rules.{rules}
 use Rattle.pen.specs.Laws.{appended}
 use Rattle.pen.proofs.append.Goals as goal
 

@@ -4,7 +4,6 @@ use native.Mathlib.Omega.{arith}
 use lib.ListN.{length}
 use Rattle.spelling.specs.Laws.{spelled_by_row}
 use Rattle.stream.specs.Sink.{most}
-use borrow.Author.Rules.{rules}
 use Rattle.pen.specs.Laws.{appended, says_from}
 use Rattle.pen.specs.Quick.{marked, not_led, led_word}
 use Rattle.pen.proofs.bare.Goals as goal
@@ -17,23 +16,23 @@ returns-then-w-eq1 c =
     let at_cut = at-if1 in
     let at_row = at_cut in
     let start = at_row in
-    let is = spelled_by_row start.args.pool.now _ start.args.kind _ at_row.row.ensures at_cut.cut-w.ensures in
+    let is = spelled_by_row start.args.from.now.pool.now _ start.args.kind _ at_row.row.ensures at_cut.cut-w.ensures in
     let held : length start.args.out.now ≤ most = omega (arith, start.well_formed.1.0) in
-    appended is (marked start.args.pool.now _ _ _ _ _ _ held is at-if1.if-w-eq1.true at_gap.gap-t.ensures at-put.put_byte-u.ensures c.opens.ensures)
+    appended is (marked start.args.from.now.pool.now _ _ _ _ _ _ held is at-if1.if-w-eq1.true at_gap.gap-t.ensures at-put.put_byte-u.ensures c.opens.ensures)
 
 pub returns-then-w-eq0 : goal.returns-then-w-eq0
 returns-then-w-eq0 c = c.append.ensures
 
-pub returns-in-Not : goal.returns-in-Not
-returns-in-Not c =
+pub returns-in-None : goal.returns-in-None
+returns-in-None c =
     let at-append = c in
     let at_told = at-append in
     let at-lay = at_told in
     let start = at-lay in
-    says_from (not_led start.args.p.sink start.args.out.now _ _ _ at-lay.lay-l.ensures at_told.in-Not.is) at-append.append-in-Not.ensures
+    says_from (not_led start.args.p.sink start.args.out.now _ _ _ at-lay.lay.ensures at_told.in-None.is) at-append.append-in-None.ensures
 
-pub returns-in-To : goal.returns-in-To
-returns-in-To c =
+pub returns-in-Some : goal.returns-in-Some
+returns-in-Some c =
     let at_told = c in
     let at-lay = at_told in
     let at-if2 = at-lay in
@@ -41,6 +40,6 @@ returns-in-To c =
     let at_cut = at-if1 in
     let at_row = at_cut in
     let start = at_row in
-    let is = spelled_by_row start.args.pool.now _ start.args.kind _ at_row.row.ensures at_cut.cut-w.ensures in
+    let is = spelled_by_row start.args.from.now.pool.now _ start.args.kind _ at_row.row.ensures at_cut.cut-w.ensures in
     appended is
-    (led_word start.args.p.sink start.args.out.now _ _ _ at-lay.lay-l.ensures start.args.pool.now _ _ is at-if2.if-w-eq0.false at-if1.if-w-eq1.false at_told.in-To.is)
+    (led_word start.args.p.sink start.args.out.now _ _ _ at-lay.lay.ensures start.args.from.now.pool.now _ _ is at-if2.if-w-eq0.false at-if1.if-w-eq1.false at_told.in-Some.is)

@@ -1,5 +1,4 @@
 -- `pen::behind` meets its contract: linear arithmetic.
-use borrow.Author.Rules.{rules}
 use native.Mathlib.Omega.{arith}
 use Rattle.pen.proofs.behind.Goals as goal
 

@@ -1,6 +1,5 @@
 -- `pen::counted` meets its contract: the bytes, and before them the space where there is to be one.
 use mathlib.Core.Path.{◌∙◌}
-use borrow.Author.Rules.{rules}
 use Rattle.pen.specs.Quick.{counts_on, counts_led}
 use Rattle.pen.proofs.counted.Goals as goal
 

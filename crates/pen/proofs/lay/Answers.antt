@@ -3,7 +3,6 @@ use Prim.Native.Nat.{◌≤◌}
 use native.Mathlib.Omega.{arith}
 use lib.ListN.{length}
 use Rattle.stream.specs.Sink.{most}
-use borrow.Author.Rules.{rules}
 use Rattle.pen.specs.Quick.{led_none, led_laid}
 use Rattle.pen.proofs.lay.Goals as goal
 

@@ -1,5 +1,4 @@
 -- `pen::line` writes the token with a newline.
-use borrow.Author.Rules.{rules}
 use Rattle.pen.specs.Laws.{a_line}
 use Rattle.pen.proofs.line.Goals as goal
 

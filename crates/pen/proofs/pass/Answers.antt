@@ -1,5 +1,4 @@
 -- `pen::pass` meets its contract: the sink stays, and the index goes behind the record.
-use borrow.Author.Rules.{rules}
 use mathlib.Core.Path.{refl}
 use Rattle.pen.proofs.pass.Goals as goal
 

@@ -1,5 +1,4 @@
 -- `pen::said` appends TK_ID with the text.
-use borrow.Author.Rules.{rules}
 use Rattle.pen.proofs.said.Goals as goal
 
 pub returns : goal.returns

@@ -1,5 +1,4 @@
 -- `pen::word` writes its word.
-use borrow.Author.Rules.{rules}
 use Rattle.pen.specs.Laws.{a_word}
 use Rattle.pen.proofs.word.Goals as goal
 

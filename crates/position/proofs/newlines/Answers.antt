@@ -1,4 +1,4 @@
--- `position::newlines` meets its contract. The loop's invariant: what was found is that of the bytes before `i`; what is left falls with each turn.
+-- `position::newlines` meets its contract. The loop's invariant: what was found is that of the bytes so far.
 use mathlib.Core.Path.{refl}
 use native.Mathlib.Omega.{arith}
 use lib.Seq.{take_all}
@@ -6,32 +6,27 @@ use Rattle.position.specs.Position.{lines, column}
 use Rattle.position.proofs.Laws.{lines_more, column_more, lines_within, column_within}
 use Rattle.position.proofs.newlines.Goals as goal
 
-pub loop-i-init : goal.loop-i-init
+pub loop-b-init : goal.loop-b-init
 unfolding lines column
-loop-i-init c = (omega arith, (refl, refl))
+loop-b-init c = (refl, refl)
 
 pub overflow_add-lines : goal.overflow_add-lines
-overflow_add-lines c =
-    let loop = c.loop-i in
-    omega (arith, lines_within c.args.s.now loop.i c.loop-i-test.true, loop.invariant.1.0, c.newline-lines.ensures)
+overflow_add-lines c = omega (arith, lines_within c.args.s.now c.loop-b.b-index c.loop-b-test.true)
 
 pub next-behind-requires : goal.next-behind-requires
-next-behind-requires c =
-    let loop = c.loop-i in
-    omega (arith, column_within c.args.s.now loop.i c.loop-i-test.true, loop.invariant.1.1)
+next-behind-requires c = omega (arith, column_within c.args.s.now c.loop-b.b-index c.loop-b-test.true)
 
-pub loop-i-preserved : goal.loop-i-preserved
-loop-i-preserved c =
-    let loop = c.loop-i in
+pub loop-b-preserved : goal.loop-b-preserved
+loop-b-preserved c =
+    let loop = c.loop-b in
     let s = c.args.s.now in
-    let some = c.loop-i-test.true in (
-      omega arith,
-      (rw (lines_more s loop.i some, c.newline-lines.ensures, loop.invariant.1.0), rw (column_more s loop.i some, c.next-behind.ensures, loop.invariant.1.1)),
+    let some = c.loop-b-test.true in (
+      rw (lines_more s loop.b-index some, c.newline-lines.ensures, loop.invariant.0),
+      rw (column_more s loop.b-index some, c.next-behind.ensures, loop.invariant.1),
     )
 
 pub returns : goal.returns
 returns c =
-    let loop = c.loop-i in
-    let s = c.args.s.now in
-    let all = take_all loop.i s c.loop-i-test.false in
-    (rw all at loop.invariant.1.0, rw all at loop.invariant.1.1)
+    let loop = c.loop-b in
+    let all = take_all loop.b-index c.args.s.now c.loop-b-test.false in
+    (rw all at loop.invariant.0, rw all at loop.invariant.1)

@@ -1,12 +1,8 @@
--- `position::newlines` meets its contract. The loop's invariant: what was found is that of the bytes before `i`; what is left falls with each turn.
-use Prim.Native.Nat.{◌≤◌, ◌-◌}
+-- `position::newlines` meets its contract. The loop's invariant: what was found is that of the bytes so far.
 use mathlib.Core.Path.{◌≡◌}
-use lib.ListN.{length, take}
+use lib.ListN.{take}
 use Rattle.position.specs.Position.{lines, column}
 use Rattle.position.proofs.newlines.Given as goal
 
-abbrev pub invariant-loop-i : goal.invariant-loop-i
-invariant-loop-i l = (l.i ≤ length l.s) × ((l.lines ≡ lines (take l.i l.s)) × (l.behind ≡ column 0 (take l.i l.s)))
-
-abbrev pub decreases-loop-i : goal.decreases-loop-i
-decreases-loop-i l = length l.s - l.i
+abbrev pub invariant-loop-b : goal.invariant-loop-b
+invariant-loop-b l = (l.lines ≡ lines (take l.b-index l.s)) × (l.behind ≡ column 0 (take l.b-index l.s))

@@ -1,7 +1,6 @@
 -- `quick::alone` meets its contract: a token word with a value is bit 15 and its kind.
 use native.Mathlib.Omega.{arith}
 use Rattle.quick.specs.Laws.{is_id, is_bare, is_other}
-use borrow.Author.Rules.{rules}
 use Rattle.quick.proofs.alone.Goals as goal
 
 pub returns-then-token-eq-ID : goal.returns-then-token-eq-ID

@@ -5,7 +5,6 @@ use mathlib.Core.Path.{refl}
 use lib.ListN.{length}
 use Rattle.store.specs.Laws.{laid_some}
 use Rattle.quick.specs.Laws.{laid_none, laid_all, mark_comes, longer_comes}
-use borrow.Author.Rules.{rules}
 use Rattle.quick.proofs.bare.Goals as goal
 
 pub mark-requires : goal.mark-requires
@@ -18,18 +17,18 @@ returns-then-word-eq1 c =
     let start = at-if1 in
     mark_comes start.args.rec start.args.out.now _ _ _ _ start.requires.0 start.requires.1 (omega (arith, at-if1.if-word-eq1.true)) at_mark.mark.ensures
 
-pub returns-in-Not : goal.returns-in-Not
-returns-in-Not c =
+pub returns-in-None : goal.returns-in-None
+returns-in-None c =
     let laid = c.lay_all-l.ensures in
-    laid_none _ _ _ _ _ _ laid.0 laid.1 _ _ c.in-Not.is
+    laid_none _ _ _ _ _ _ laid.0 laid.1 _ _ c.in-None.is
 
-pub returns-in-To : goal.returns-in-To
-returns-in-To c =
+pub returns-in-Some : goal.returns-in-Some
+returns-in-Some c =
     let at_told = c in
     let at-laid = at_told in
     let laid = at-laid.lay_all-l.ensures in
     let at-if1 = at-laid in
     let start = at-if1 in
-    let some : 0 < length start.args.word.now = laid_some _ _ _ _ start.args.out.now _ laid.0 at_told.in-To.is in
+    let some : 0 < length start.args.word.now = laid_some _ _ _ _ start.args.out.now _ laid.0 at_told.in-Some.is in
     longer_comes start.args.rec start.args.out.now _ _ _ _ start.requires.0 start.requires.1 (λ e. omega (arith, e, some)) (λ e. omega (arith, e, at-if1.if-word-eq1.false))
-    (laid_all start.args.rec _ _ _ _ _ laid.0 laid.1 _ _ _ _ at_told.in-To.is refl refl)
+    (laid_all start.args.rec _ _ _ _ _ laid.0 laid.1 _ _ _ _ at_told.in-Some.is refl refl)

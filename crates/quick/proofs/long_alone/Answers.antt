@@ -6,7 +6,6 @@ use lib.ListN.{length}
 use borrow.Author.Tests.{not-true, not-false}
 use Rattle.utf8.specs.Plain.{few}
 use Rattle.quick.specs.Laws.{nothing, not_alone, not_plain, over_long, value_comes}
-use borrow.Author.Rules.{rules}
 use Rattle.quick.proofs.long_alone.Goals as goal
 
 pub returns-then-value-gt-LONGEST : goal.returns-then-value-gt-LONGEST

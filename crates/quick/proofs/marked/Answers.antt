@@ -1,7 +1,6 @@
 -- `quick::marked` meets its contract: the bit of the byte.
 use mathlib.Core.Path.{refl}
 use Rattle.quick.specs.Quick.{marked}
-use borrow.Author.Rules.{rules}
 use Rattle.quick.proofs.marked.Goals as goal
 
 pub returns : goal.returns

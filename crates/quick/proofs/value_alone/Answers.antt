@@ -4,7 +4,6 @@ use lib.ListN.{length}
 use borrow.Author.Tests.{not-true, not-false}
 use Rattle.utf8.specs.Plain.{few}
 use Rattle.quick.specs.Laws.{nothing, not_alone, not_plain, few_short, value_comes}
-use borrow.Author.Rules.{rules}
 use Rattle.quick.proofs.value_alone.Goals as goal
 
 pub returns-then-not-alone : goal.returns-then-not-alone

@@ -5,8 +5,8 @@ use lib.ListN.{drop, get_or}
 use native.Mathlib.Omega.{arith}
 use Rattle.laws.specs.Tests.{and_right}
 use Rattle.laws.specs.Among.{among}
-use Rattle.reading.specs.Bytes.{exes}
-use Rattle.reading.specs.Reading.{opened}
+use Rattle.reading.specs.Bytes.{word_byte, exes}
+use Rattle.reading.specs.Reading.{operator_byte, opened}
 use Rattle.reader.specs.Laws.{opened_inside, not_blank}
 use Rattle.reader.specs.Sorts.{begins_word, begins_mark, begins_digits, begins_quote, begins_operator, begins_variable, begins_nothing}
 use Rattle.reader.proofs.Finds.{found_mark, found_quoted, found_operator, found_variable, found_word, found_blob, found_number, found_nothing}
@@ -30,7 +30,7 @@ returns-then-word_first c _ =
     let byte = (c.shared_slice_known-1.given at).fits in
     rw c.closed-then-word_first.ensures
     (found_word text at _ start.requires (begins_word _ byte (sym c.word_first.ensures ∙ c.if-word_first.true))
-    (sym c.opens_blob.ensures ∙ c.if-opens_blob.false) c.word_end.ensures)
+    (sym c.opens_blob.ensures ∙ c.if-opens_blob.false) (c.bytes_end.ensures word_byte (λ b r is. is)))
 
 pub returns-then-mark : goal.returns-then-mark
 returns-then-mark c _ =
@@ -66,7 +66,7 @@ returns-then-operator_byte c _ =
     let at = start.args.at in
     let byte = (c.shared_slice_known-1.given at).fits in
     rw c.closed-then-operator_byte.ensures
-    (found_operator text at _ start.requires (begins_operator _ byte (sym c.operator_byte.ensures ∙ c.if-operator_byte.true)) c.operator_end.ensures)
+    (found_operator text at _ start.requires (begins_operator _ byte (sym c.operator_byte.ensures ∙ c.if-operator_byte.true)) (c.bytes_end-then-operator_byte.ensures operator_byte (λ b r is. is)))
 
 pub returns-then-variable : goal.returns-then-variable
 returns-then-variable c _ =
@@ -75,7 +75,7 @@ returns-then-variable c _ =
     let at = start.args.at in
     let byte = (c.shared_slice_known-1.given at).fits in
     rw c.closed-then-variable.ensures
-    (found_variable text at _ start.requires (begins_variable _ byte (sym c.variable.ensures ∙ c.if-variable.true)) c.word_end-then-variable.ensures)
+    (found_variable text at _ start.requires (begins_variable _ byte (sym c.variable.ensures ∙ c.if-variable.true)) (c.bytes_end-then-variable.ensures word_byte (λ b r is. is)))
 
 pub returns : goal.returns
 returns c bare =

@@ -1,49 +1,39 @@
 -- `reader::number_end` meets its contract: the digits end the number, unless a dot with a digit behind it follows.
-use Prim.Native.Nat.{◌+◌}
-use mathlib.Core.Path.{sym, ◌∙◌}
-use native.Mathlib.Omega.{arith}
-use borrow.Author.Tests.{not-true, not-false, ne_eqb, eq-eqb}
+use Rattle.std.proofs.Common.{ℕ, ◌+◌, ◌≤◌, sym, ◌∙◌, arith, length}
+use borrow.Author.Tests.{ne_eqb, eq-eqb}
 use Rattle.reading.specs.Bytes.{digit, dot}
 use Rattle.reader.specs.Numbers.{takes_inside, number_whole, no_dot_left, no_dot}
 use Rattle.reader.proofs.Numbers.{number_dotted}
+use Rattle.reader.proofs.number_end.Goals.{else-end-text-via-then-end-text+then-text-end-eq-DOT+else-digit, else-end-text-via-then-end-text+else-text-end-eq-DOT, else-end-text-via-else-end-text}
 use Rattle.reader.proofs.number_end.Goals as goal
 
-pub overflow_sub-text : goal.overflow_sub-text
-overflow_sub-text c = let start = c in let first = start.requires in takes_inside digit start.args.text.now (start.args.at + 1) c.digits_end-end.result (omega arith) c.digits_end-end.ensures
+pub overflow_add-end : goal.overflow_add-end
+overflow_add-end c =
+    let args = c.args in
+    let digits = c.bytes_end-end in
+    let first = c.requires in
+    let inside = takes_inside digit args.text.now (args.at + 1) digits.result (omega arith) (digits.ensures digit (λ b r is. is)) in
+    omega arith
 
-pub returns-then-text-end-lt2 : goal.returns-then-text-end-lt2
-returns-then-text-end-lt2 c =
-    let start = c in
-    let text = start.args.text.now in
-    let first = start.requires in
-    let few = c.if-text-end-lt2.true in
-    let digits = c.digits_end-end in
-    let inside = takes_inside digit text (start.args.at + 1) digits.result (omega arith) digits.ensures in
-    number_whole text start.args.at digits.result first digits.ensures (no_dot_left text digits.result inside (omega arith))
-
-pub returns-then-text-end-ne-DOT : goal.returns-then-text-end-ne-DOT
-returns-then-text-end-ne-DOT c =
-    let start = c in
-    let text = start.args.text.now in
-    let more = c.if-text-end-lt2.false in
-    let digits = c.digits_end-end in
-    number_whole text start.args.at digits.result start.requires digits.ensures (no_dot text digits.result (omega arith) (rw (ne_eqb _ dot c.if-text-end-ne-DOT.true)))
-
-pub returns-then-not-digit : goal.returns-then-not-digit
-returns-then-not-digit c =
-    let start = c in
-    let text = start.args.text.now in
-    let more = c.if-text-end-lt2.false in
-    let digits = c.digits_end-end in
-    let no_digit = sym c.digit.ensures ∙ not-true _ c.if-not-digit.true-raw in
-    number_whole text start.args.at digits.result start.requires digits.ensures
-    (no_dot text digits.result (omega arith) (rw (eq-eqb _ dot c.if-text-end-ne-DOT.false, no_digit)))
+pub returns-then-digit : goal.returns-then-digit
+returns-then-digit c =
+    let args = c.args in
+    let digits = c.bytes_end-end in
+    number_dotted args.text.now args.at digits.result _ c.requires (digits.ensures digit (λ b r is. is)) c.if-end-text.true
+    c.if-text-end-eq-DOT.true (sym c.digit.ensures ∙ c.if-digit.true) (c.bytes_end.ensures digit (λ b r is. is))
 
 pub returns : goal.returns
 returns c =
-    let start = c in
-    let text = start.args.text.now in
-    let more = c.if-text-end-lt2.false in
-    let digits = c.digits_end-end in
-    let a_digit = sym c.digit.ensures ∙ not-false _ c.if-not-digit.false-raw in
-    number_dotted text start.args.at digits.result _ start.requires digits.ensures (omega arith) c.if-text-end-ne-DOT.false a_digit c.digits_end.ensures
+    let args = c.args in
+    let text = args.text.now in
+    let digits = c.bytes_end-end in
+    let first = c.requires in
+    let ends = digits.ensures digit (λ b r is. is) in
+    let whole = number_whole text args.at digits.result first ends in
+    elim c.else-end-text.branch [
+      | else-end-text-via-then-end-text+then-text-end-eq-DOT+else-digit w ↦
+          whole (no_dot text digits.result w.if-end-text.true (rw (eq-eqb _ dot w.if-text-end-eq-DOT.true, sym w.digit.ensures ∙ w.if-digit.false)))
+      | else-end-text-via-then-end-text+else-text-end-eq-DOT w ↦ whole (no_dot text digits.result w.if-end-text.true (rw (ne_eqb _ dot w.if-text-end-eq-DOT.false)))
+      | else-end-text-via-else-end-text w ↦
+          whole (no_dot_left text digits.result (takes_inside digit text (args.at + 1) digits.result (omega arith) ends) w.if-end-text.false)
+    ]

@@ -11,7 +11,7 @@ returns-then-length-draft c =
     let out = c.args.out.now in
     let now = c.copy_from_slice.new.self in
     let e : now ++ drop n out ≡ take (length (take n d)) (take n d) ++ drop n out = rw (take-length (take n d), c.copy_from_slice.ensures.after) in
-    copied c.args.edition c.args.tree.now c.args.text.now out d _ n c.requires.1.0 c.requires.1.1.0 c.if-length-draft.true c.requires.1.1.1
+    copied c.args.from.now.edition c.args.from.now.tree.now c.args.from.now.text.now out d _ n c.requires.1.0 c.requires.1.1.0 c.if-length-draft.true c.requires.1.1.1
     (rw (length-take-le n d c.if-length-draft.true) at e)
 
 pub returns-else-length-draft : goal.returns-else-length-draft

@@ -1,16 +1,13 @@
 -- `render::measure` meets its contract: the check's refusal, or the length, which is short.
-use native.Mathlib.Omega.{arith}
-use borrow.Author.Rules.{rules}
+use Rattle.std.proofs.Common.{arith}
+use Rattle.std.proofs.lemmas.Result.{err_from_is_err_and}
 use Rattle.render.specs.Laws.{refused, measured_all}
 use Rattle.render.proofs.measure.Goals as goal
 
-pub returns-then-number-ne0 : goal.returns-then-number-ne0
-returns-then-number-ne0 c = refused c.check-checked.ensures _ c.number.ensures c.if-number-ne0.true
+pub returns-in_err-check : goal.returns-in_err-check
+returns-in_err-check c =
+    let p = err_from_is_err_and c.from_residual.result c.from_residual.ensures.1 in
+    rw (p.1, p.2) (refused _ c.in_err-check.ensures)
 
 pub returns : goal.returns
-returns c =
-    let at-if1 = c.if-number-ne0 in
-    let at-number = c.number in
-    let at-check = c.check-checked in
-    let at-bytes = c.shared_slice_known-1 in
-    measured_all at-check.ensures _ at-number.ensures at-if1.false (λ k. omega (arith, at-bytes.given k)) _ c.write.ensures.counts
+returns c = measured_all c.in_ok-check.ensures (λ k. omega (arith, c.type_inv.tree k)) _ c.write.ensures.counts

@@ -1,5 +1,4 @@
 -- `render::render` meets its contract: the text is rendered by what the check answers.
-use borrow.Author.Rules.{rules}
 use Rattle.render.proofs.render.Goals as goal
 
 pub render_checked-requires : goal.render_checked-requires

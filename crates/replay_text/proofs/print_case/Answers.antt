@@ -6,7 +6,7 @@ use Rattle.render.specs.Laws.{done_fits}
 use Rattle.replay_text.proofs.print_case.Goals as goal
 
 pub slice_bounds-out-end : goal.slice_bounds-out-end
-slice_bounds-out-end c = omega (arith, done_fits (rw c.in-Done.is at c.render-rendered.ensures))
+slice_bounds-out-end c = omega (arith, done_fits (rw c.in-Ok.is at c.render-rendered.ensures))
 
 pub slice_bounds-print_text-end : goal.slice_bounds-print_text-end
-slice_bounds-print_text-end c = sym (length-take-le _ _ (omega (arith, done_fits (rw c.in-Done.is at c.render-rendered.ensures))))
+slice_bounds-print_text-end c = sym (length-take-le _ _ (omega (arith, done_fits (rw c.in-Ok.is at c.render-rendered.ensures))))

@@ -1,5 +1,4 @@
 -- `stmt` goes to the group of statements that the kind is in.
-use borrow.Author.Rules.{rules}
 use Rattle.pen.specs.Laws.{in_one}
 use Rattle.pen.specs.Places.{alike}
 use Rattle.stmt.specs.Laws.{in_first, in_second, in_third}

@@ -1,5 +1,4 @@
 -- `stmt_to_rollback` writes the statement that stands there.
-use borrow.Author.Rules.{rules}
 use mathlib.Core.Path.{refl}
 use borrow.Author.Tests.{ne_eqb}
 use Rattle.grammar.specs.Grammar.{shape}

@@ -2,7 +2,6 @@
 use native.Mathlib.Omega.{arith}
 use lib.ListN.{length-set}
 use Rattle.store.specs.Copies.{no_byte, three_bytes}
-use borrow.Author.Rules.{rules}
 use Rattle.store.proofs.few.Goals as goal
 
 pub returns-then-n-eq0 : goal.returns-then-n-eq0

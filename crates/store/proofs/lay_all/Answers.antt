@@ -5,7 +5,6 @@ use mathlib.Core.Path.{◌∙◌, ap, sym}
 use mathlib.Core.Bool.{false≢true}
 use lib.ListN.{length, set, length-set}
 use lib.Seq.{length-sets}
-use borrow.Author.Rules.{rules}
 use borrow.Author.Tests.{not-true, not-false}
 use Rattle.store.specs.Laid.{most}
 use Rattle.store.specs.Laws.{none, no_room, at_most_one, not_laid, all_laid}

@@ -1,13 +1,6 @@
--- `store::many` meets its contract. The loop's invariant: the first i bytes are stored; what is left falls with each turn, and the last
--- sixteen reach back to those.
-use Prim.Native.Nat.{◌≤◌, ◌-◌}
-use native.Mathlib.Omega.{arith}
-use mathlib.Core.Path.{◌≡◌, refl, ◌∙◌, ap}
-use lib.ListN.{length, take}
-use lib.Seq.{sets, length-sets}
-use Rattle.laws.specs.Rest.{length_rest}
-use Rattle.store.specs.Copies.{next, ends}
-use borrow.Author.Rules.{rules}
+-- `store::many` meets its contract. The loop's invariant: the first i bytes are stored.
+use Rattle.std.proofs.Common.{◌≡◌, ◌≤◌, ◌-◌, length, take}
+use Rattle.std.proofs.lemmas.List.Edits.{sets}
 use Rattle.store.proofs.many.Given as goal
 
 abbrev pub invariant-loop-i : goal.invariant-loop-i

@@ -1,7 +1,6 @@
 -- `store::start` meets its contract by the two ways of what stands before the bytes.
 use native.Mathlib.Nat.{add-zero}
 use mathlib.Core.Path.{refl, sym}
-use borrow.Author.Rules.{rules}
 use Rattle.store.specs.Laid.{lead}
 use Rattle.store.proofs.start.Goals as goal
 

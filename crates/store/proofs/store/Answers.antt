@@ -4,7 +4,6 @@ use mathlib.Core.Path.{sym}
 use lib.Seq.{length-take-le}
 use Rattle.laws.specs.Sets.{sets_past}
 use Rattle.store.specs.Copies.{as_fits}
-use borrow.Author.Rules.{rules}
 use Rattle.store.proofs.store.Goals as goal
 
 pub returns-then-out-at : goal.returns-then-out-at
@@ -14,14 +13,14 @@ returns-then-out-at c =
 
 pub slice_bounds-lay-end : goal.slice_bounds-lay-end
 slice_bounds-lay-end c =
-    sym (length-take-le _ c.args.v.now (omega (arith, c.least-n.ensures)))
+    sym (length-take-le _ c.args.v.now (omega (arith, c.min-n.ensures)))
 
 pub lay-requires : goal.lay-requires
 lay-requires c =
-    let least = c.least-n in
-    rw (length-take-le least.result c.args.v.now (omega (arith, least.ensures))) (omega (arith, least.ensures))
+    let n = c.min-n in
+    rw (length-take-le n.result c.args.v.now (omega (arith, n.ensures))) (omega (arith, n.ensures))
 
 pub returns : goal.returns
 returns c =
     let start = c.args in
-    rw (c.lay.ensures, c.least-n.ensures) (as_fits start.out.now start.v.now start.at (omega arith))
+    rw (c.lay.ensures, c.min-n.ensures) (as_fits start.out.now start.v.now start.at (omega arith))

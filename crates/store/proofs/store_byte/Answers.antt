@@ -2,7 +2,6 @@
 use mathlib.Core.Path.{sym}
 use mathlib.Core.List.{[], ◌∷◌}
 use Rattle.laws.specs.Sets.{sets_past}
-use borrow.Author.Rules.{rules}
 use Rattle.store.proofs.store_byte.Goals as goal
 
 pub returns-then-out-i : goal.returns-then-out-i

@@ -1,10 +1,7 @@
 -- `stream::in_quotes` meets its contract: the value's three pieces join by the laws of the sink.
-use borrow.Author.Rules.{rules}
+use Rattle.std.proofs.Common.{rules}
 use Rattle.stream.specs.Laws.{quotes_poured}
 use Rattle.stream.proofs.in_quotes.Goals as goal
 
 pub returns : goal.returns
-returns c =
-    quotes_poured _ _ _ _ _ (search rules)
-    c.put-t.ensures
-    c.put-t-2.ensures c.put.ensures
+returns g c = quotes_poured _ _ _ _ _ (search rules) c.put-t.ensures c.pour_inside-t.ensures c.put.ensures

@@ -1,4 +1,4 @@
--- `stream::pour_doubled` meets its contract. The loop's invariant: the bytes before `i` are poured, each quote among them doubled; what is left falls with each turn.
+-- `stream::pour_doubled` meets its contract. The loop's invariant: the bytes before the next one are poured, each quote among them doubled.
 use mathlib.Core.Path.{◌∙◌, ap}
 use native.Mathlib.Omega.{arith}
 use lib.ListN.{length}
@@ -10,21 +10,16 @@ use Rattle.stream.proofs.Quotes.{next_poured}
 use borrow.Author.Rules.{rules}
 use Rattle.stream.proofs.pour_doubled.Goals as goal
 
-pub loop-i-init : goal.loop-i-init
-loop-i-init c = (omega arith, none_poured _ (search rules))
+pub loop-b-init : goal.loop-b-init
+loop-b-init c = (omega arith, none_poured _ (search rules))
 
-pub loop-i-preserved : goal.loop-i-preserved
-loop-i-preserved c =
-    let at-twice = c in
-    let at_test = at-twice in
-    let some = at_test.loop-i-test.true in
-    (omega arith, next_poured _ _ _ _ _ (search rules) some at_test.loop-i.invariant.1 at-twice.twice-t.ensures)
+pub loop-b-preserved : goal.loop-b-preserved
+loop-b-preserved c = (omega arith, next_poured _ _ _ _ _ (search rules) c.loop-b-test.true c.loop-b.invariant.1 c.twice-t.ensures)
 
 pub returns : goal.returns
 returns c =
-    let loop = c.loop-i in
-    let value = c.args.value.now in
-    rw (take_all loop.i value c.loop-i-test.false) at loop.invariant.1
+    let loop = c.loop-b in
+    rw (take_all loop.b-index c.args.value.now c.loop-b-test.false) at loop.invariant.1
 
 pub shape_of-out : goal.shape_of-out
 shape_of-out c = ap (λ (st : State). length st.1) (returns c) ∙ pour_length _ _

@@ -1,6 +1,5 @@
 -- `stream::put` meets its contract: the bytes are stored, and counted.
 use Rattle.stream.specs.Sink.{pour}
-use borrow.Author.Rules.{rules}
 use Rattle.stream.proofs.put.Goals as goal
 
 pub returns : goal.returns

@@ -1,6 +1,5 @@
 -- `tree::check` meets its contract: where 1 or the length of the text comes first the encoding has no part in the answer, and else it is the text's own.
 use Rattle.tree.specs.Told.{unlooked, told_checks}
-use borrow.Author.Rules.{rules}
 use Rattle.tree.proofs.check.Goals as goal
 
 pub returns-then-malformed-text : goal.returns-then-malformed-text

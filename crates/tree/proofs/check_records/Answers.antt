@@ -1,23 +1,18 @@
 -- `tree::check_records` meets its contract: the walk of the root comes to the scan of all records.
-use borrow.Author.Rules.{rules}
-use native.Mathlib.Omega.{arith}
-use mathlib.Core.Path.{refl, ◌∙◌, sym}
-use Rattle.tree.proofs.Whole.{all_filled, else_refused}
+use Rattle.std.proofs.Common.{sym}
+use Rattle.std.proofs.lemmas.Result.{err_from_is_err_and}
+use Rattle.tree.proofs.Whole.{refused, left_over, all_filled}
 use Rattle.tree.proofs.check_records.Goals as goal
 
-pub returns-then-w-count : goal.returns-then-w-count
-returns-then-w-count c =
-    let at-args = c.args in
-    let at_pre = c.requires in
-    all_filled at-args.tree.now at-args.text.now _ at_pre.0 c.check_row-w.ensures (c.if-w-count.true ∙ c.count.ensures)
+pub returns-in_err-end : goal.returns-in_err-end
+returns-in_err-end c =
+    let p = err_from_is_err_and c.from_residual.result c.from_residual.ensures.1 in
+    rw (p.1, p.2) (refused c.args.on.now.tree.now c.args.on.now.text.now _ (rw (sym c.unpacked.ensures, c.in_err-end.was) at c.row_below.ensures))
+
+pub returns-then-end-count : goal.returns-then-end-count
+returns-then-end-count c =
+    left_over c.args.on.now.tree.now c.args.on.now.text.now _ (rw (sym c.unpacked.ensures, c.in_ok-end.was) at c.row_below.ensures) (rw (← c.count.ensures) c.if-end-count.true)
 
 pub returns : goal.returns
 returns c =
-    let at-args = c.args in
-    let at_pre = c.requires in
-    let at-check-row = c.check_row-w in
-    c.answer_of.ensures
-    ∙ else_refused at-args.tree.now at-args.text.now _ at_pre.0 at-check-row.ensures (λ e. c.if-w-count.false (e ∙ sym c.count.ensures))
-
-pub check_row-w-requires : goal.check_row-w-requires
-check_row-w-requires c = (c.requires.0, (c.requires.1, (omega arith, (omega arith, refl))))
+    all_filled c.args.on.now.tree.now c.args.on.now.text.now _ (rw (sym c.unpacked.ensures, c.in_ok-end.was) at c.row_below.ensures) (rw (← c.count.ensures) c.if-end-count.false)

@@ -1,43 +1,32 @@
 -- `tree::check_told` meets its contract: each return is the first refusal that fits, or what the records come to.
-use borrow.Author.Tests.{not-false}
-use Rattle.tree.proofs.Whole.{short_count}
+use Rattle.std.proofs.Common.{◌∙◌, sym}
+use Rattle.std.proofs.lemmas.Result.{err_from_is_err_and}
+use borrow.Author.Tests.{not-false, not-true}
 use Rattle.tree.specs.Told.{is_malformed, too_long, ill, begun_inside, looked_at}
-use mathlib.Core.Path.{◌∙◌, sym}
-use borrow.Author.Rules.{rules}
+use Rattle.tree.proofs.Whole.{short_count}
 use Rattle.tree.proofs.check_told.Goals as goal
 
 pub returns-then-malformed : goal.returns-then-malformed
-returns-then-malformed c = is_malformed _ _ _ _ c.malformed.ensures c.if-malformed.true
+returns-then-malformed c = is_malformed _ _ _ c.malformed.ensures _ c.if-malformed.true
 
 pub returns-then-text-gt-LONGEST : goal.returns-then-text-gt-LONGEST
-returns-then-text-gt-LONGEST c = too_long _ _ _ _ c.malformed.ensures c.if-malformed.false c.if-text-gt-LONGEST.true
+returns-then-text-gt-LONGEST c = too_long _ _ _ c.malformed.ensures c.if-malformed.false _ c.if-text-gt-LONGEST.true
 
-pub returns-then-number-ne0 : goal.returns-then-number-ne0
-returns-then-number-ne0 c =
-    let at-malformed = c.malformed in
-    let at-if1 = c.if-malformed in
-    let at-if2 = c.if-text-gt-LONGEST in
-    ill _ _ _ _ at-malformed.ensures at-if1.false at-if2.false _ c.number.ensures c.if-number-ne0.true
+pub returns-in_err-told : goal.returns-in_err-told
+returns-in_err-told c =
+    let p = err_from_is_err_and c.from_residual.result c.from_residual.ensures.1 in
+    rw (p.1, p.2, c.in_err-told.was) (ill c.args.tree.now c.args.text.now _ c.malformed.ensures c.if-malformed.false c.if-text-gt-LONGEST.false _)
 
 pub returns-then-not-boundary : goal.returns-then-not-boundary
 returns-then-not-boundary c =
-    let at-malformed = c.malformed in
-    let at-if1 = c.if-malformed in
-    let at-if2 = c.if-text-gt-LONGEST in
-    let at-number = c.number in
-    begun_inside _ _ _ _ at-malformed.ensures at-if1.false at-if2.false _ at-number.ensures c.if-number-ne0.false _ c.boundary.ensures c.if-not-boundary.true-raw
+    rw c.in_ok-told.was
+    (begun_inside c.args.tree.now c.args.text.now _ c.malformed.ensures c.if-malformed.false c.if-text-gt-LONGEST.false _ c.boundary.ensures (not-true _ c.if-not-boundary.true-raw))
 
-pub check_records-requires : goal.check_records-requires
-check_records-requires c =
-    let at-malformed = c.malformed in
-    let at-if1 = c.if-malformed in
-    (short_count _ _ at-malformed.ensures at-if1.false, sym c.boundary.ensures ∙ not-false _ c.if-not-boundary.false-raw)
+pub invariant_of-check_records : goal.invariant_of-check_records
+invariant_of-check_records c =
+    record { few = short_count _ _ c.malformed.ensures c.if-malformed.false; begun = sym c.boundary.ensures ∙ not-false _ c.if-not-boundary.false-raw }
 
 pub returns : goal.returns
 returns c =
-    let at-malformed = c.malformed in
-    let at-if1 = c.if-malformed in
-    let at-if2 = c.if-text-gt-LONGEST in
-    let at-number = c.number in
-    let at-if3 = c.if-number-ne0 in
-    looked_at _ _ _ _ at-malformed.ensures at-if1.false at-if2.false _ at-number.ensures at-if3.false _ c.boundary.ensures _ c.if-not-boundary.false-raw c.check_records.ensures
+    rw c.in_ok-told.was
+    (looked_at c.args.tree.now c.args.text.now _ c.malformed.ensures c.if-malformed.false c.if-text-gt-LONGEST.false _ c.boundary.ensures _ (not-false _ c.if-not-boundary.false-raw) c.check_records.ensures)

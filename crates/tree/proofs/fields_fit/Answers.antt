@@ -1,5 +1,4 @@
 -- `tree::fields_fit` meets its contract: bytes that are zero, a NUMBER, and else what has a text part.
-use borrow.Author.Rules.{rules}
 use mathlib.Core.Path.{sym, ◌∙◌}
 use Rattle.tree.specs.Laws.{zeros_fit, number_fits, part_fits}
 use Rattle.tree.proofs.fields_fit.Goals as goal

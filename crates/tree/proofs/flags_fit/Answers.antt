@@ -1,5 +1,4 @@
 -- `tree::flags_fit` meets its contract: no flags fit any kind, a TOKEN's number is known, and any other kind's flags are below its rule's number.
-use borrow.Author.Rules.{rules}
 use Rattle.tree.specs.Laws.{no_flags, flags_token, flags_rule}
 use Rattle.tree.proofs.flags_fit.Goals as goal
 

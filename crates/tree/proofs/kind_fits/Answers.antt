@@ -1,5 +1,4 @@
 -- `tree::kind_fits` meets its contract: the bit of its place, each test that fails, and all of them.
-use borrow.Author.Rules.{rules}
 use native.Mathlib.Omega.{arith}
 use Rattle.grammar.specs.Laws.{stands_bit}
 use Rattle.tree.specs.Laws.{kind_held, not_allowed, miscounted, all_fit}

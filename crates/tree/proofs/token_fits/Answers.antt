@@ -1,5 +1,4 @@
 -- `tree::token_fits` meets its contract: each test that fails, and all of what a TOKEN's place asks of bytes 2-7.
-use borrow.Author.Rules.{rules}
 use Rattle.tree.specs.Laws.{no_token, token_kids, token_fit}
 use Rattle.tree.proofs.token_fits.Goals as goal
 

@@ -1,9 +1,6 @@
 -- `utf8::begins` meets its contract: it asks the definition's tests in their order, by the contracts of `long`, `second` and `tail`.
 -- Assumes nothing.
-use Prim.Native.Nat.{◌≤◌}
-use mathlib.Core.Path.{◌≡◌}
-use lib.ListN.{length, get_or}
-use borrow.Author.Rules.{rules}
+use lib.ListN.{length}
 use borrow.Author.Tests.{eq-eqb, ne_eqb, le-leb, lt-leb}
 use Rattle.utf8.specs.Scan.{begins}
 use Rattle.utf8.proofs.begins.Goals as goal

@@ -5,7 +5,6 @@ use mathlib.Core.Bool.{or-false}
 use native.Mathlib.Omega.{arith}
 use lib.Dec.{eqb}
 use lib.ListN.{length}
-use borrow.Author.Rules.{rules}
 use borrow.Author.Tests.{lt-ltb, le-ltb, ne_eqb}
 use Rattle.utf8.specs.Rfc3629.{boundary}
 use Rattle.utf8.proofs.boundary.Goals as goal

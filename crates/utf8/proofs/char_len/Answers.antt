@@ -1,6 +1,5 @@
 -- `utf8::char_len` meets its contract: the definition goes by the count of ones of the first byte (`by_ones`), as the code does.
 -- Assumes nothing.
-use borrow.Author.Rules.{rules}
 use borrow.Author.Tests.{ne_eqb}
 use Rattle.utf8.specs.Scan.{counted}
 use Rattle.utf8.proofs.Ways.{by_ones}

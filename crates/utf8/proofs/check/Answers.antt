@@ -4,6 +4,8 @@
 use native.Mathlib.Omega.{arith}
 use lib.ListN.{take}
 use lib.Seq.{take_all}
+use mathlib.Core.Path.{sym, subst}
+use Rattle.utf8.specs.Rfc3629.{Encoded}
 use Rattle.laws.specs.Rest.{rest}
 use Rattle.utf8.proofs.Beginnings.{broken_encoded}
 use Rattle.utf8.specs.Plain.{plain_text}
@@ -26,7 +28,7 @@ returns-then-n-eq0 c =
     let more = c.loop-i-test.true in
     let found = c.next_len-n in
     let at = loop.i in
-    rw (c.broken.ensures, rest s at)
+    subst (Encoded s) (sym (rw (rest s at) at c.fault.ensures))
     (broken_encoded s at (more, stops s at more loop.invariant.1 found.result found.ensures c.if-n-eq0.true))
 
 pub loop-i-preserved : goal.loop-i-preserved

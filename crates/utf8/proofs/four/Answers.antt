@@ -1,6 +1,5 @@
 -- `utf8::four` meets its contract: each way through it is the definition's (`Ways`), by the contracts of `second` and `tail`.
 -- Assumes nothing.
-use borrow.Author.Rules.{rules}
 use Rattle.utf8.specs.Scan.{quadruple, four}
 use Rattle.utf8.proofs.Ways.{short, whole, wrong}
 use Rattle.utf8.proofs.four.Goals as goal

@@ -1,5 +1,4 @@
 -- `utf8::long` meets its contract: the definition asks the same two tests, and then counts the ones. Assumes nothing.
-use borrow.Author.Rules.{rules}
 use borrow.Author.Tests.{lt-ltb, le-ltb}
 use Rattle.utf8.specs.Scan.{long}
 use Rattle.utf8.proofs.long.Goals as goal

@@ -4,7 +4,6 @@ use Prim.Native.Nat.{◌≤◌}
 use mathlib.Core.Path.{◌∙◌, sym}
 use native.Mathlib.Omega.{arith}
 use lib.ListN.{length, get_or}
-use borrow.Author.Rules.{rules}
 use Rattle.laws.specs.Rest.{rest}
 use Rattle.utf8.specs.Scan.{counted}
 use Rattle.utf8.specs.Characters.{ones_0}
@@ -27,22 +26,22 @@ returns-then-plain_byte c =
 pub returns-then-n-eq0 : goal.returns-then-n-eq0
 returns-then-n-eq0 c = goes_width c.args.s.now 0 (sym c.if-n-eq0.true ∙ c.char_len-n.ensures)
 
-pub slice_bounds-blocks-count : goal.slice_bounds-blocks-count
-slice_bounds-blocks-count c = omega (arith, fits c)
+pub slice_bounds-pieces-count : goal.slice_bounds-pieces-count
+slice_bounds-pieces-count c = omega (arith, fits c)
 
-pub slice_bounds-blocks-start : goal.slice_bounds-blocks-start
-slice_bounds-blocks-start c = omega (arith, fits c)
+pub slice_bounds-pieces-start : goal.slice_bounds-pieces-start
+slice_bounds-pieces-start c = omega (arith, fits c)
 
-pub slice_bounds-blocks-end : goal.slice_bounds-blocks-end
-slice_bounds-blocks-end c = omega (arith, fits c)
+pub slice_bounds-pieces-end : goal.slice_bounds-pieces-end
+slice_bounds-pieces-end c = omega (arith, fits c)
 
 pub returns : goal.returns
 returns c =
     let s = c.args.s.now in
     let char = c.char_len-n in
-    let more = c.blocks-2 in
+    let more = c.pieces in
     goes_far s char.result more.result (goes_width s char.result char.ensures) c.if-n-eq0.false
     (rw (rest s char.result) at more.ensures.within) (rw (rest s char.result) at more.ensures.plain)
 
 pub overflow_add-result : goal.overflow_add-result
-overflow_add-result c = omega (arith, c.blocks-2.ensures.within)
+overflow_add-result c = omega (arith, c.pieces.ensures.within)

@@ -1,6 +1,5 @@
 -- `utf8::plain_three` meets its contract: of up to three bytes each is the first, the middle or the last. Assumes nothing.
 use native.Mathlib.Omega.{arith}
-use borrow.Author.Rules.{rules}
 use Rattle.utf8.specs.Plain.{none_plain, three_plain}
 use Rattle.utf8.proofs.plain_three.Goals as goal
 

@@ -1,6 +1,5 @@
 -- `utf8::second` meets its contract, by those of `low` and `high`.
 -- Assumes nothing.
-use borrow.Author.Rules.{rules}
 use Rattle.utf8.proofs.second.Goals as goal
 
 pub returns : goal.returns

@@ -1,6 +1,5 @@
 -- `utf8::three` meets its contract: each way through it is the definition's (`Ways`), by the contracts of `second` and `tail`.
 -- Assumes nothing.
-use borrow.Author.Rules.{rules}
 use Rattle.utf8.specs.Scan.{triple, three}
 use Rattle.utf8.proofs.Ways.{short, whole, wrong}
 use Rattle.utf8.proofs.three.Goals as goal

@@ -1,6 +1,5 @@
 -- `utf8::two` meets its contract: each way through it is the definition's (`Ways`), by the contract of `tail`.
 -- Assumes nothing.
-use borrow.Author.Rules.{rules}
 use Rattle.utf8.specs.Scan.{pair, two}
 use Rattle.utf8.proofs.Ways.{short, whole, wrong}
 use Rattle.utf8.proofs.two.Goals as goal

@@ -1,12 +1,9 @@
 -- `white::skip_white` meets its contract. The loop's invariant: the parts of what is left are still the same, and `n` is the length of the White_Space character that stands at `i`.
 use Prim.Native.Nat.{◌≤◌, ◌-◌}
-use native.Mathlib.Omega.{arith}
-use mathlib.Core.Path.{◌≡◌, refl, ◌∙◌}
+use mathlib.Core.Path.{◌≡◌}
 use lib.ListN.{length, drop}
 use Rattle.white.specs.White.{white_length}
 use Rattle.white.specs.Steps.{parts_from}
-use Rattle.white.proofs.Runs.{white_le, over_white}
-use borrow.Author.Rules.{rules}
 use Rattle.white.proofs.skip_white.Given as goal
 
 abbrev pub invariant-loop-n : goal.invariant-loop-n

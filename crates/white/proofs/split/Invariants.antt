@@ -1,11 +1,9 @@
 -- `white::split` meets its contract. The loop's invariant: the parts passed are counted, no White_Space character stands at `at`, and the parts of what is left are the text's others.
 use Prim.Native.Nat.{◌≤◌, ◌-◌}
-use native.Mathlib.Omega.{arith}
 use mathlib.Core.Path.{◌≡◌}
 use lib.ListN.{length, drop}
 use Rattle.white.specs.White.{white_length}
-use Rattle.white.proofs.Count.{Passed, none_passed, one_passed, all_passed}
-use borrow.Author.Rules.{rules}
+use Rattle.white.proofs.Count.{Passed}
 use Rattle.white.proofs.split.Given as goal
 
 abbrev pub invariant-loop-at : goal.invariant-loop-at

@@ -4,7 +4,6 @@ use native.Mathlib.Omega.{arith}
 use mathlib.Core.Path.{sym, ◌∙◌}
 use borrow.Author.Tests.{not-false}
 use Rattle.wire.specs.Laws.{not_well}
-use borrow.Author.Rules.{rules}
 use Rattle.wire.proofs.append.Goals as goal
 
 pub returns-then-not-well_formed : goal.returns-then-not-well_formed

@@ -3,7 +3,6 @@ use mathlib.Core.Path.{refl, sym}
 use mathlib.Core.Bool.{true}
 use Rattle.append.specs.Laws.{place_small}
 use Rattle.wire.specs.Laws.{all_long, taken_whole, well}
-use borrow.Author.Rules.{rules}
 use Rattle.wire.proofs.asked.Goals as goal
 
 pub repack-requires : goal.repack-requires

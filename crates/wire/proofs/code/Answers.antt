@@ -2,7 +2,6 @@
 use native.Mathlib.Omega.{arith}
 use Rattle.append.specs.Append.{code}
 use Rattle.append.specs.Laws.{number_small}
-use borrow.Author.Rules.{rules}
 use Rattle.wire.proofs.code.Goals as goal
 
 pub joined-requires : goal.joined-requires

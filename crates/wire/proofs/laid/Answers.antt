@@ -2,7 +2,6 @@
 use native.Mathlib.Omega.{arith}
 use mathlib.Core.Path.{refl, sym, ◌∙◌}
 use Rattle.wire.specs.Laws.{all_long, set_length, fields_length, first_two, then_column, column_still, packs_on_line}
-use borrow.Author.Rules.{rules}
 use Rattle.wire.proofs.laid.Goals as goal
 
 pub bounds-rec-0 : goal.bounds-rec-0

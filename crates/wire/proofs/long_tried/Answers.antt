@@ -3,7 +3,6 @@ use mathlib.Core.Path.{sym, ◌∙◌}
 use borrow.Author.Tests.{not-true, not-false}
 use Rattle.quick.specs.Laws.{nothing}
 use Rattle.wire.specs.Laws.{tried_not, tried}
-use borrow.Author.Rules.{rules}
 use Rattle.wire.proofs.long_tried.Goals as goal
 
 pub returns-then-not-held : goal.returns-then-not-held

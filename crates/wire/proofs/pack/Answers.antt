@@ -2,7 +2,6 @@
 use native.Mathlib.Omega.{arith}
 use mathlib.Core.Path.{◌∙◌, sym}
 use Rattle.wire.specs.Laws.{fields_length, set_length, first_two, then_line, then_column, packs}
-use borrow.Author.Rules.{rules}
 use Rattle.wire.proofs.pack.Goals as goal
 
 pub put_number-requires : goal.put_number-requires

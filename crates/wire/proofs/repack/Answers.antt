@@ -1,6 +1,5 @@
 -- `wire::repack` meets its contract: bytes that were added pack the record anew, and a refusal leaves it.
-use borrow.Author.Rules.{rules}
 use Rattle.wire.proofs.repack.Goals as goal
 
-pub returns-in-Added : goal.returns-in-Added
-returns-in-Added c = rw c.in-Added.is c.pack.ensures
+pub returns-in-Ok : goal.returns-in-Ok
+returns-in-Ok c = rw c.in-Ok.is c.pack.ensures

@@ -1,7 +1,6 @@
 -- `wire::unpack` meets its contract: the first byte, and the numbers of the eight bytes of each field.
 use native.Mathlib.Omega.{arith}
 use Rattle.wire.specs.Laws.{all_long, unpacks}
-use borrow.Author.Rules.{rules}
 use Rattle.wire.proofs.unpack.Goals as goal
 
 pub bounds-rec-0 : goal.bounds-rec-0

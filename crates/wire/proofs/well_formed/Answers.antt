@@ -3,7 +3,6 @@ use native.Mathlib.Omega.{arith}
 use lib.ListN.{length}
 use borrow.Author.Tests.{eq-eqb, ne_eqb}
 use Rattle.wire.specs.Wire.{well_formed}
-use borrow.Author.Rules.{rules}
 use Rattle.wire.proofs.well_formed.Goals as goal
 
 pub returns-then-rec-ne-RECORD : goal.returns-then-rec-ne-RECORD

@@ -1,5 +1,4 @@
 -- `constraint::constraint_name` passes over NONE.
-use borrow.Author.Rules.{rules}
 use Rattle.pen.specs.Laws.{◌▹◌}
 use Rattle.pen.specs.Places.{optional, given_none, given_some}
 use Rattle.clause.proofs.constraint.constraint_name.Goals as goal

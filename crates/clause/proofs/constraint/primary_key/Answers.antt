@@ -1,5 +1,4 @@
 -- `constraint::primary_key` writes its entry, a step a call.
-use borrow.Author.Rules.{rules}
 use Rattle.pen.specs.Laws.{◌▹◌, same}
 use Rattle.grammar.specs.Grammar.{shape}
 use Rattle.pen.specs.Flags.{bits, first_bit}

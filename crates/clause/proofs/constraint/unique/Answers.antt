@@ -1,5 +1,4 @@
 -- `constraint::unique` writes its entry, a step a call.
-use borrow.Author.Rules.{rules}
 use Rattle.pen.specs.Laws.{◌▹◌}
 use Rattle.grammar.specs.Grammar.{shape}
 use Rattle.clause.proofs.constraint.unique.Goals as goal

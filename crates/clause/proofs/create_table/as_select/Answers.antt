@@ -1,5 +1,4 @@
 -- `create_table::as_select` writes its entry, a step a call.
-use borrow.Author.Rules.{rules}
 use Rattle.pen.specs.Laws.{◌▹◌}
 use Rattle.grammar.specs.Grammar.{shape}
 use Rattle.clause.proofs.create_table.as_select.Goals as goal

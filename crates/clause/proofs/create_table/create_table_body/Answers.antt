@@ -1,5 +1,4 @@
 -- `create_table::create_table_body` writes the body that stands there.
-use borrow.Author.Rules.{rules}
 use mathlib.Core.Path.{refl}
 use borrow.Author.Tests.{ne_eqb}
 use Rattle.grammar.specs.Grammar.{shape}

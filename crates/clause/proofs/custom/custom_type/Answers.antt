@@ -1,5 +1,4 @@
 -- `custom::custom_type` writes its entry, a step a call.
-use borrow.Author.Rules.{rules}
 use Rattle.pen.specs.Laws.{◌▹◌, a_said, same, in_one}
 use Rattle.parts.specs.Laws.{said_clause}
 use Rattle.grammar.specs.Grammar.{shape}

@@ -1,5 +1,4 @@
 -- `custom::default_first` finds the index behind the operators, writes the default that is there, and then the operators.
-use borrow.Author.Rules.{rules}
 use mathlib.Core.Path.{refl}
 use Rattle.pen.specs.Laws.{in_one}
 use Rattle.parts.specs.Laws.{said_clause}

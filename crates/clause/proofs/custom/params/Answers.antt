@@ -1,7 +1,9 @@
 -- `custom::params` passes over an empty LIST.
 use borrow.Author.Rules.{rules}
 use Rattle.pen.specs.Places.{filled_none, filled_some}
-use Rattle.clause.specs.Held.{held}
+use mathlib.Core.List.{[], ◌∷◌}
+use Rattle.grammar.specs.Kind.{TypeParam}
+use Rattle.grammar.specs.Grammar.{node}
 use Rattle.clause.proofs.custom.params.Goals as goal
 
 pub returns-then-r-eq0 : goal.returns-then-r-eq0
@@ -11,9 +13,8 @@ returns-then-r-eq0 c r =
     filled_none at_read.read-r.ensures at-if1.if-r-eq0.true c.pass.ensures
 
 pub returns : goal.returns
-unfolding held
 returns c r =
     let at-list = c in
     let at-if1 = at-list in
     let at_read = at-if1 in
-    filled_some at_read.read-r.ensures at-if1.if-r-eq0.false (at-list.list_in_parens.ensures r)
+    filled_some at_read.read-r.ensures at-if1.if-r-eq0.false (at-list.list_in_parens.ensures _ (node (TypeParam ∷ [])) (λ q r o o' b h. search rules) r)

@@ -1,5 +1,4 @@
 -- `join::join_constraint` writes the constraint that stands there.
-use borrow.Author.Rules.{rules}
 use mathlib.Core.Path.{refl}
 use borrow.Author.Tests.{ne_eqb}
 use Rattle.grammar.specs.Grammar.{shape}

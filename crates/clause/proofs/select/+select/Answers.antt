@@ -1,48 +1,38 @@
 -- Select, one-select, from and table meet their contracts: they call each other on child records, and the depth that is left falls at each step down.
--- Each member writes its entry, a step a call; along a list goes a loop.
+-- Each member writes its entry, a step a call; along a list goes `parts::list`.
 use borrow.Author.Tests.{ne_eqb}
 use native.Mathlib.Omega.{arith}
-use mathlib.Core.Path.{refl, ◌∙◌}
+use borrow.Author.Rules.{rules}
+use mathlib.Core.Bool.{true, false}
+use mathlib.Core.List.{[], ◌∷◌}
+use mathlib.Core.Path.{refl}
 use Prim.Native.Nat.{◌≤◌}
-use Rattle.mode.specs.declared.Edition.TheVariants.{Crate}
 use Rattle.record.specs.Laws.{nothing as blank}
-use Rattle.grammar.specs.Kind.{ColumnDefinition, NamedTableConstraint, TypeField, TypeParam, DomainConstraint, Pair, CompoundSelect, OneSelect, Values, JoinedTable, Table, TableCall, TableSelect, Sub, CommonTableExpr}
+use Rattle.grammar.specs.Kind.{CompoundSelect, OneSelect, Values, JoinedTable, Table, TableCall, TableSelect, Sub, CommonTableExpr}
+use Rattle.grammar.specs.Grammar as grammar
 use Rattle.grammar.specs.Grammar.{shape}
-use Rattle.tokens.specs.Tokens.{means}
-use Rattle.pen.specs.Laws.{◌▹◌, same, puts_length}
-use Rattle.pen.specs.Rows.{row_first, row_done}
+use Rattle.pen.specs.Laws.{◌▹◌, same}
 use Rattle.pen.specs.Places.{shut, opened, left_some, shallow, other, node_on, optional, given_none, given_some}
-use Rattle.parts.specs.Laws.{no_list, a_list, either}
-use Rattle.clause.specs.Held.{held}
+use Rattle.parts.specs.Laws.{list_of}
 use Rattle.clause.proofs.select.+select.Goals as goal
 
 pub body-returns-then-left-r : goal.body-returns-then-left-r
-unfolding shape held
+unfolding shape
 body-returns-then-left-r t c r = shut refl c.read-r.ensures c.if-left-r.true (c.run.ensures _ r)
 
-pub body-overflow_sub-left : goal.body-overflow_sub-left
-unfolding shape held
-body-overflow_sub-left t c = left_some _ _ c.if-left-r.false
+pub body-overflow_sub-below : goal.body-overflow_sub-below
+unfolding shape
+body-overflow_sub-below t c = left_some _ _ c.if-left-r.false
 
 pub body-one_select-q-requires : goal.body-one_select-q-requires
-unfolding shape held
+unfolding shape
 body-one_select-q-requires t c =
     let l : 1 ≤ c.args.left = left_some _ _ c.if-left-r.false in
     (omega (arith, c.decreases, l), tt)
 
-pub body-overflow_sub-left-2 : goal.body-overflow_sub-left-2
-unfolding shape held
-body-overflow_sub-left-2 t c = left_some _ _ c.if-left-r.false
-
-pub body-list-requires : goal.body-list-requires
-unfolding shape held
-body-list-requires t c =
-    let l : 1 ≤ c.args.left = left_some _ _ c.if-left-r.false in
-    (omega (arith, c.decreases, l), tt)
-
 pub body-returns : goal.body-returns
-unfolding shape held
-body-returns t c r = opened refl c.read-r.ensures c.if-left-r.false c.pass-q.ensures (c.one_select-q.ensures _ ▹ c.list.ensures _)
+unfolding shape
+body-returns t c r = opened refl c.read-r.ensures c.if-left-r.false c.pass-q.ensures (c.one_select-q.ensures _ ▹ list_of (grammar.node (CompoundSelect ∷ [])) false c.list.ensures (λ q r o o' b h. search rules))
 
 pub compound-returns-then-left-r : goal.compound-returns-then-left-r
 unfolding shape
@@ -93,105 +83,23 @@ cte_body-shape_of-out t c = same (c.materialized-q.ensures _ _ (record { mark = 
 pub cte_body-returns : goal.cte_body-returns
 cte_body-returns t c r h = c.materialized-q.ensures _ _ r h ▹ c.not_materialized-q.ensures _ _ r h ▹ c.word-q.ensures _ _ r ▹ c.select-q.ensures r ▹ c.word.ensures _ _ r
 
-pub element-returns-then-kind-eq-COLUMN_DEFINITION : goal.element-returns-then-kind-eq-COLUMN_DEFINITION
-unfolding held
-element-returns-then-kind-eq-COLUMN_DEFINITION t c r = rw c.if-kind-eq-COLUMN_DEFINITION.true (c.column_definition.ensures r)
-
-pub element-returns-then-kind-eq-NAMED_TABLE_CONSTRAINT : goal.element-returns-then-kind-eq-NAMED_TABLE_CONSTRAINT
-unfolding held
-element-returns-then-kind-eq-NAMED_TABLE_CONSTRAINT t c r = rw c.if-kind-eq-NAMED_TABLE_CONSTRAINT.true (c.named_table_constraint.ensures r)
-
-pub element-returns-then-kind-eq-TYPE_FIELD : goal.element-returns-then-kind-eq-TYPE_FIELD
-unfolding held
-element-returns-then-kind-eq-TYPE_FIELD t c r = rw c.if-kind-eq-TYPE_FIELD.true (c.type_field.ensures r)
-
-pub element-returns-then-kind-eq-TYPE_PARAM : goal.element-returns-then-kind-eq-TYPE_PARAM
-unfolding held
-element-returns-then-kind-eq-TYPE_PARAM t c r = rw c.if-kind-eq-TYPE_PARAM.true (c.type_param.ensures r)
-
-pub element-returns-then-kind-eq-DOMAIN_CONSTRAINT : goal.element-returns-then-kind-eq-DOMAIN_CONSTRAINT
-unfolding held
-element-returns-then-kind-eq-DOMAIN_CONSTRAINT t c r = rw c.if-kind-eq-DOMAIN_CONSTRAINT.true (c.domain_constraint.ensures r)
-
-pub element-returns-then-kind-eq-PAIR : goal.element-returns-then-kind-eq-PAIR
-unfolding held
-element-returns-then-kind-eq-PAIR t c r = rw c.if-kind-eq-PAIR.true (c.pair.ensures r)
-
-pub element-cte-requires : goal.element-cte-requires
-unfolding held
-element-cte-requires t c = (omega (arith, c.decreases), tt)
-
-pub element-returns-then-kind-eq-COMMON_TABLE_EXPR : goal.element-returns-then-kind-eq-COMMON_TABLE_EXPR
-unfolding held
-element-returns-then-kind-eq-COMMON_TABLE_EXPR t c r = rw c.if-kind-eq-COMMON_TABLE_EXPR.true (c.cte.ensures r)
-
-pub element-compound-requires : goal.element-compound-requires
-unfolding held
-element-compound-requires t c = (omega (arith, c.decreases), tt)
-
-pub element-returns-then-kind-eq-COMPOUND_SELECT : goal.element-returns-then-kind-eq-COMPOUND_SELECT
-unfolding held
-element-returns-then-kind-eq-COMPOUND_SELECT t c r = rw c.if-kind-eq-COMPOUND_SELECT.true (c.compound.ensures r)
-
-pub element-joined-requires : goal.element-joined-requires
-unfolding held
-element-joined-requires t c = (omega (arith, c.decreases), tt)
-
-pub element-returns-then-kind-eq-JOINED_TABLE : goal.element-returns-then-kind-eq-JOINED_TABLE
-unfolding held
-element-returns-then-kind-eq-JOINED_TABLE t c r = rw c.if-kind-eq-JOINED_TABLE.true (c.joined.ensures r)
-
-pub element-returns : goal.element-returns
-unfolding held
-element-returns t c r = rw (ne_eqb _ ColumnDefinition c.if-kind-eq-COLUMN_DEFINITION.false, ne_eqb _ NamedTableConstraint c.if-kind-eq-NAMED_TABLE_CONSTRAINT.false, ne_eqb _ TypeField c.if-kind-eq-TYPE_FIELD.false, ne_eqb _ TypeParam c.if-kind-eq-TYPE_PARAM.false, ne_eqb _ DomainConstraint c.if-kind-eq-DOMAIN_CONSTRAINT.false, ne_eqb _ Pair c.if-kind-eq-PAIR.false, ne_eqb _ CommonTableExpr c.if-kind-eq-COMMON_TABLE_EXPR.false, ne_eqb _ CompoundSelect c.if-kind-eq-COMPOUND_SELECT.false, ne_eqb _ JoinedTable c.if-kind-eq-JOINED_TABLE.false) (c.run.ensures _ r)
-
-pub elements-loop-rest-init : goal.elements-loop-rest-init
-unfolding held means
-elements-loop-rest-init t c v = refl
-
-pub elements-element-q-requires : goal.elements-element-q-requires
-unfolding held means
-elements-element-q-requires t c = (omega (arith, c.decreases), tt)
-
-pub elements-loop-rest-preserved : goal.elements-loop-rest-preserved
-unfolding held means
-elements-loop-rest-preserved t c v = row_first _ _ _ _ c.loop-rest-test.true c.comma_if-q.ensures ((c.element-q.ensures blank).puts v) ∙ c.loop-rest.invariant v
-
-pub elements-shape_of-out : goal.elements-shape_of-out
-unfolding held means
-elements-shape_of-out t c = puts_length (row_done _ _ _ _ c.loop-rest-test.false (c.loop-rest.invariant Crate))
-
-pub elements-returns : goal.elements-returns
-unfolding held means
-elements-returns t c v = row_done _ _ _ _ c.loop-rest-test.false (c.loop-rest.invariant v)
-
 pub from_clause-returns-then-left-r : goal.from_clause-returns-then-left-r
-unfolding shape held
+unfolding shape
 from_clause-returns-then-left-r t c r = shut refl c.read-r.ensures c.if-left-r.true (c.run.ensures _ r)
 
-pub from_clause-overflow_sub-left : goal.from_clause-overflow_sub-left
-unfolding shape held
-from_clause-overflow_sub-left t c = left_some _ _ c.if-left-r.false
+pub from_clause-overflow_sub-below : goal.from_clause-overflow_sub-below
+unfolding shape
+from_clause-overflow_sub-below t c = left_some _ _ c.if-left-r.false
 
 pub from_clause-table-q-requires : goal.from_clause-table-q-requires
-unfolding shape held
+unfolding shape
 from_clause-table-q-requires t c =
     let l : 1 ≤ c.args.left = left_some _ _ c.if-left-r.false in
     (omega (arith, c.decreases, l), tt)
 
-pub from_clause-overflow_sub-left-2 : goal.from_clause-overflow_sub-left-2
-unfolding shape held
-from_clause-overflow_sub-left-2 t c = left_some _ _ c.if-left-r.false
-
-pub from_clause-list-requires : goal.from_clause-list-requires
-unfolding shape held
-from_clause-list-requires t c =
-    let l : 1 ≤ c.args.left = left_some _ _ c.if-left-r.false in
-    (omega (arith, c.decreases, l), tt)
-
 pub from_clause-returns : goal.from_clause-returns
-unfolding shape held
-from_clause-returns t c r = opened refl c.read-r.ensures c.if-left-r.false c.pass-q.ensures (c.table-q.ensures _ ▹ c.list.ensures _)
+unfolding shape
+from_clause-returns t c r = opened refl c.read-r.ensures c.if-left-r.false c.pass-q.ensures (c.table-q.ensures _ ▹ list_of (grammar.node (JoinedTable ∷ [])) false c.list.ensures (λ q r o o' b h. search rules))
 
 pub from_given-returns-then-r-eq-NONE : goal.from_given-returns-then-r-eq-NONE
 from_given-returns-then-r-eq-NONE t c r = given_none c.read-r.ensures c.if-r-eq-NONE.true c.pass.ensures
@@ -223,15 +131,6 @@ joined-overflow_sub-left-2 t c = left_some _ _ c.if-left-r.false
 pub joined-returns : goal.joined-returns
 unfolding shape
 joined-returns t c r = opened refl c.read-r.ensures c.if-left-r.false c.pass-q.ensures (c.run-q.ensures _ _ ▹ c.table-q.ensures _ ▹ optional (c.join_constraint.ensures _))
-
-pub list-returns-then-r-ne-LIST : goal.list-returns-then-r-ne-LIST
-list-returns-then-r-ne-LIST t c r = either _ c.args.commas (no_list c.args.text.now _ _ c.read-r.ensures c.pass-q.ensures c.if-r-ne-LIST.true)
-
-pub list-elements-requires : goal.list-elements-requires
-list-elements-requires t c = (omega (arith, c.decreases), tt)
-
-pub list-returns : goal.list-returns
-list-returns t c r = either _ c.args.commas (a_list c.args.text.now _ _ c.read-r.ensures c.pass-q.ensures c.if-r-ne-LIST.false c.elements.ensures)
 
 pub one-from_given-q-requires : goal.one-from_given-q-requires
 unfolding shape
@@ -350,19 +249,13 @@ unfolding shape
 table_select-returns t c r = (c.word-q.ensures _ _ r ▹ c.select-q.ensures r ▹ c.word-q-2.ensures _ _ r) ▹ optional (c.run.ensures _ r)
 
 pub with_clause-returns-then-left-r : goal.with_clause-returns-then-left-r
-unfolding shape held
+unfolding shape
 with_clause-returns-then-left-r t c r = shut refl c.read-r.ensures c.if-left-r.true (c.run.ensures _ r)
 
-pub with_clause-overflow_sub-left : goal.with_clause-overflow_sub-left
-unfolding shape held
-with_clause-overflow_sub-left t c = left_some _ _ c.if-left-r.false
-
-pub with_clause-list-requires : goal.with_clause-list-requires
-unfolding shape held
-with_clause-list-requires t c =
-    let l : 1 ≤ c.args.left = left_some _ _ c.if-left-r.false in
-    (omega (arith, c.decreases, l), tt)
+pub with_clause-overflow_sub-below : goal.with_clause-overflow_sub-below
+unfolding shape
+with_clause-overflow_sub-below t c = left_some _ _ c.if-left-r.false
 
 pub with_clause-returns : goal.with_clause-returns
-unfolding shape held
-with_clause-returns t c r = opened refl c.read-r.ensures c.if-left-r.false c.pass-q.ensures (c.run-q.ensures _ _ ▹ c.list.ensures _)
+unfolding shape
+with_clause-returns t c r = opened refl c.read-r.ensures c.if-left-r.false c.pass-q.ensures (c.run-q.ensures _ _ ▹ list_of (grammar.node (CommonTableExpr ∷ [])) true c.list.ensures (λ q r o o' b h. search rules))

@@ -1,5 +1,4 @@
 -- `select::filters`: each call is a step of its shape.
-use borrow.Author.Rules.{rules}
 use Rattle.pen.specs.Laws.{◌▹◌}
 use Rattle.pen.specs.Places.{optional}
 use Rattle.clause.proofs.select.filters.Goals as goal

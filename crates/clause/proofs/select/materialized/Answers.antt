@@ -1,5 +1,4 @@
 -- `select::materialized` writes its word where the flags say so.
-use borrow.Author.Rules.{rules}
 use Rattle.grammar.specs.Grammar.{materialized}
 use Rattle.pen.specs.Places.{is_so, is_not}
 use Rattle.clause.proofs.select.materialized.Goals as goal

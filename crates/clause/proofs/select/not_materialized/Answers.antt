@@ -1,5 +1,4 @@
 -- `select::not_materialized` writes its words where the flags say so.
-use borrow.Author.Rules.{rules}
 use Rattle.pen.specs.Laws.{◌▹◌}
 use Rattle.pen.specs.Places.{is_so, is_not}
 use Rattle.grammar.specs.Grammar.{not_materialized}

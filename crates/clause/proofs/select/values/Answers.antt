@@ -1,5 +1,4 @@
 -- `select::values` passes over an empty LIST.
-use borrow.Author.Rules.{rules}
 use Rattle.pen.specs.Laws.{◌▹◌}
 use Rattle.pen.specs.Places.{filled_none, filled_some}
 use Rattle.grammar.specs.Grammar.{shape}

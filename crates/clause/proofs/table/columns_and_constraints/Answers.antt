@@ -1,13 +1,16 @@
 -- `table::columns_and_constraints` writes its entry, a step a call.
 use borrow.Author.Rules.{rules}
 use Rattle.pen.specs.Laws.{◌▹◌, same, in_one}
-use Rattle.clause.specs.Held.{held}
-use Rattle.grammar.specs.Grammar.{shape}
+use mathlib.Core.Bool.{true}
+use mathlib.Core.List.{[], ◌∷◌}
+use Rattle.grammar.specs.Kind.{ColumnDefinition}
+use Rattle.parts.specs.Laws.{list_of}
+use Rattle.grammar.specs.Grammar.{shape, node}
 use Rattle.record.specs.Laws.{nothing as blank}
 use Rattle.clause.proofs.table.columns_and_constraints.Goals as goal
 
 pub returns : goal.returns
-unfolding shape held
+unfolding shape
 returns c r =
     let at-options = c in
     let at-word2 = at-options in
@@ -15,7 +18,7 @@ returns c r =
     let at-list = at-constraints in
     let at-word = at-list in
     (at-word.word-q.ensures _ _ r
-    ▹ (in_one (at-list.list-q.ensures r) ▹ in_one (at-constraints.constraints-q.ensures r))
+    ▹ (in_one (list_of (node (ColumnDefinition ∷ [])) true at-list.list-q.ensures (λ q r o o' b h. search rules)) ▹ in_one (at-constraints.constraints-q.ensures r))
     ▹ at-word2.word-q-2.ensures _ _ r)
     ▹ at-options.options.ensures _ r
 

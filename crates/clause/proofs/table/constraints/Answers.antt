@@ -2,7 +2,11 @@
 use borrow.Author.Rules.{rules}
 use Rattle.pen.specs.Laws.{◌▹◌}
 use Rattle.pen.specs.Places.{filled_none, filled_some}
-use Rattle.clause.specs.Held.{held}
+use mathlib.Core.Bool.{true}
+use mathlib.Core.List.{[], ◌∷◌}
+use Rattle.grammar.specs.Kind.{NamedTableConstraint}
+use Rattle.grammar.specs.Grammar.{node}
+use Rattle.parts.specs.Laws.{list_of}
 use Rattle.clause.proofs.table.constraints.Goals as goal
 
 pub returns-then-r-eq0 : goal.returns-then-r-eq0
@@ -12,10 +16,9 @@ returns-then-r-eq0 c r =
     filled_none at_read.read-r.ensures at-if1.if-r-eq0.true c.pass.ensures
 
 pub returns : goal.returns
-unfolding held
 returns c r =
     let at-list = c in
     let at-word = at-list in
     let at-if1 = at-word in
     let at_read = at-if1 in
-    filled_some at_read.read-r.ensures at-if1.if-r-eq0.false (at-word.word-q.ensures _ _ r ▹ at-list.list.ensures r)
+    filled_some at_read.read-r.ensures at-if1.if-r-eq0.false (at-word.word-q.ensures _ _ r ▹ list_of (node (NamedTableConstraint ∷ [])) true at-list.list.ensures (λ q r o o' b h. search rules))

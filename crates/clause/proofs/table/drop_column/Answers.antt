@@ -1,5 +1,4 @@
 -- `table::drop_column` writes its entry, a step a call.
-use borrow.Author.Rules.{rules}
 use Rattle.pen.specs.Laws.{◌▹◌}
 use Rattle.grammar.specs.Grammar.{shape}
 use Rattle.clause.proofs.table.drop_column.Goals as goal

@@ -1,5 +1,4 @@
 -- `table::rename_column` writes its entry, a step a call.
-use borrow.Author.Rules.{rules}
 use Rattle.pen.specs.Laws.{◌▹◌, same}
 use Rattle.grammar.specs.Grammar.{shape}
 use Rattle.record.specs.Laws.{nothing as blank}

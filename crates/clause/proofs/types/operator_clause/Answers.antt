@@ -1,5 +1,4 @@
 -- `types::operator_clause` writes its entry, a step a call.
-use borrow.Author.Rules.{rules}
 use mathlib.Core.Path.{refl}
 use Rattle.pen.specs.Laws.{◌▹◌, a_said, in_one}
 use Rattle.pen.specs.Places.{shut, opened, optional}

@@ -1,5 +1,4 @@
 -- `types::size` passes over NONE.
-use borrow.Author.Rules.{rules}
 use Rattle.pen.specs.Laws.{◌▹◌}
 use Rattle.pen.specs.Places.{optional, given_none, given_some}
 use Rattle.clause.proofs.types.size.Goals as goal

@@ -1,5 +1,4 @@
 -- `types::type_field` writes its entry, a step a call.
-use borrow.Author.Rules.{rules}
 use mathlib.Core.Path.{refl}
 use Rattle.pen.specs.Laws.{◌▹◌}
 use Rattle.pen.specs.Places.{shut, opened, left_some}

@@ -1,5 +1,4 @@
 -- `upsert::upsert_nothing` writes its entry, a step a call.
-use borrow.Author.Rules.{rules}
 use Rattle.pen.specs.Laws.{◌▹◌}
 use Rattle.grammar.specs.Grammar.{shape}
 use Rattle.clause.proofs.upsert.upsert_nothing.Goals as goal

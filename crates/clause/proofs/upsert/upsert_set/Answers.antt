@@ -1,5 +1,4 @@
 -- `upsert::upsert_set` writes its entry, a step a call.
-use borrow.Author.Rules.{rules}
 use Rattle.pen.specs.Laws.{◌▹◌, same}
 use Rattle.grammar.specs.Grammar.{shape}
 use Rattle.record.specs.Laws.{nothing as blank}

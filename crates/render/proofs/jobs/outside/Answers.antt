@@ -1,6 +1,5 @@
 -- `render::jobs::outside` meets its contract: the test has no sum that could wrap.
 use Rattle.render.specs.JobsLaws.{outside_past, outside_by}
-use borrow.Author.Rules.{rules}
 use Rattle.render.proofs.jobs.outside.Goals as goal
 
 pub returns-then-size-job : goal.returns-then-size-job

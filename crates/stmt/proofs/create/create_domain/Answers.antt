@@ -1,14 +1,17 @@
 -- `create::create_domain` writes its entry, a step a call.
 use borrow.Author.Rules.{rules}
 use Rattle.pen.specs.Laws.{◌▹◌, a_said}
-use Rattle.clause.specs.Held.{held}
-use Rattle.grammar.specs.Grammar.{shape}
+use mathlib.Core.Bool.{false}
+use mathlib.Core.List.{[], ◌∷◌}
+use Rattle.grammar.specs.Kind.{DomainConstraint}
+use Rattle.parts.specs.Laws.{list_of}
+use Rattle.grammar.specs.Grammar.{shape, node}
 use mathlib.Core.Path.{refl}
 use Rattle.stmt.specs.Laws.{same_two}
 use Rattle.stmt.proofs.create.create_domain.Goals as goal
 
 pub returns : goal.returns
-unfolding shape held
+unfolding shape
 returns c r h g =
     let at-list = c in
     let at-not-null = at-list in
@@ -27,7 +30,7 @@ returns c r h g =
     ▹ at-name2.name-q-2.ensures _ r
     ▹ at-clause.clause-q.ensures _ r
     ▹ at-not-null.not_null-q.ensures _ _ r _ g
-    ▹ at-list.list.ensures r
+    ▹ list_of (node (DomainConstraint ∷ [])) false at-list.list.ensures (λ q r o o' b h. search rules)
 
 pub shape_of-out : goal.shape_of-out
 shape_of-out c = same_two (returns c)

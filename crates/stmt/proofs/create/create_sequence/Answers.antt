@@ -1,5 +1,4 @@
 -- `create::create_sequence` writes its entry, a step a call.
-use borrow.Author.Rules.{rules}
 use Rattle.pen.specs.Laws.{◌▹◌, a_said}
 use Rattle.grammar.specs.Grammar.{shape}
 use mathlib.Core.Path.{refl}

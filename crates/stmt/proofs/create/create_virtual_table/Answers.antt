@@ -1,5 +1,4 @@
 -- `create::create_virtual_table` writes its entry, a step a call.
-use borrow.Author.Rules.{rules}
 use Rattle.pen.specs.Laws.{◌▹◌}
 use Rattle.grammar.specs.Grammar.{shape}
 use Rattle.stmt.specs.Laws.{same_one}

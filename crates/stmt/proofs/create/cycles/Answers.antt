@@ -1,5 +1,4 @@
 -- `create::cycles` writes its word under the flag.
-use borrow.Author.Rules.{rules}
 use Rattle.pen.specs.Laws.{a_said}
 use Rattle.pen.specs.Places.{under, not_under}
 use mathlib.Core.Path.{refl}

@@ -1,5 +1,4 @@
 -- `create::for_each_row` writes its words under the flag.
-use borrow.Author.Rules.{rules}
 use Rattle.pen.specs.Laws.{◌▹◌}
 use Rattle.pen.specs.Places.{under, not_under}
 use Rattle.stmt.proofs.create.for_each_row.Goals as goal

@@ -1,5 +1,4 @@
 -- `create::not_null` writes its words under the flag.
-use borrow.Author.Rules.{rules}
 use Rattle.pen.specs.Laws.{◌▹◌}
 use Rattle.pen.specs.Places.{under, not_under}
 use Rattle.stmt.proofs.create.not_null.Goals as goal

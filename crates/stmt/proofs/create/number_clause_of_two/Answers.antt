@@ -1,5 +1,4 @@
 -- `create::number_clause_of_two` passes over NONE.
-use borrow.Author.Rules.{rules}
 use Rattle.pen.specs.Laws.{◌▹◌, a_said}
 use Rattle.pen.specs.Places.{given_none, given_some}
 use Rattle.stmt.proofs.create.number_clause_of_two.Goals as goal

@@ -1,5 +1,4 @@
 -- `create::view_body`: each call is a step of its shape.
-use borrow.Author.Rules.{rules}
 use Rattle.pen.specs.Laws.{◌▹◌}
 use Rattle.stmt.proofs.create.view_body.Goals as goal
 

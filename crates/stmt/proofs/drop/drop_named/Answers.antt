@@ -1,5 +1,4 @@
 -- `drop::drop_named`: each call is a step of its shape.
-use borrow.Author.Rules.{rules}
 use Rattle.pen.specs.Laws.{◌▹◌}
 use Rattle.stmt.proofs.drop.drop_named.Goals as goal
 

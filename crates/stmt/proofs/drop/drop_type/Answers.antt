@@ -1,5 +1,4 @@
 -- `drop::drop_type` writes its entry, a step a call.
-use borrow.Author.Rules.{rules}
 use Rattle.pen.specs.Laws.{◌▹◌}
 use Rattle.grammar.specs.Grammar.{shape}
 use Rattle.stmt.proofs.drop.drop_type.Goals as goal

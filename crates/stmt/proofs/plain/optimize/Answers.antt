@@ -1,5 +1,4 @@
 -- `plain::optimize` writes its entry, a step a call.
-use borrow.Author.Rules.{rules}
 use Rattle.pen.specs.Laws.{◌▹◌}
 use Rattle.pen.specs.Places.{optional}
 use Rattle.grammar.specs.Grammar.{shape}

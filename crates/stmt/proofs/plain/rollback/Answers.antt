@@ -1,5 +1,4 @@
 -- `plain::rollback` writes its entry, a step a call.
-use borrow.Author.Rules.{rules}
 use Rattle.pen.specs.Laws.{◌▹◌}
 use Rattle.grammar.specs.Grammar.{shape}
 use Rattle.stmt.proofs.plain.rollback.Goals as goal

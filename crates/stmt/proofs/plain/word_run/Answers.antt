@@ -1,5 +1,4 @@
 -- `plain::word_run`: each call is a step of its shape.
-use borrow.Author.Rules.{rules}
 use Rattle.pen.specs.Laws.{◌▹◌}
 use Rattle.stmt.proofs.plain.word_run.Goals as goal
 

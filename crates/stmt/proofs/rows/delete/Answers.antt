@@ -1,5 +1,4 @@
 -- `rows::delete` writes its entry, a step a call.
-use borrow.Author.Rules.{rules}
 use Rattle.pen.specs.Laws.{◌▹◌, same}
 use Rattle.pen.specs.Places.{optional}
 use Rattle.grammar.specs.Grammar.{shape}

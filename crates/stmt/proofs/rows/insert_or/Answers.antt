@@ -1,5 +1,4 @@
 -- `rows::insert_or` writes REPLACE, or INSERT and any OR.
-use borrow.Author.Rules.{rules}
 use Rattle.stmt.specs.Laws.{replacing_is, replacing_not}
 use Rattle.stmt.proofs.rows.insert_or.Goals as goal
 

@@ -1,5 +1,4 @@
 -- `rows::update_rest`: each call is a step of its shape.
-use borrow.Author.Rules.{rules}
 use Rattle.pen.specs.Laws.{◌▹◌, same}
 use Rattle.record.specs.Laws.{nothing as blank}
 use Rattle.stmt.proofs.rows.update_rest.Goals as goal

@@ -1,9 +1,0 @@
--- `position::newline` meets its contract: it goes by the definition's test.
-use borrow.Author.Tests.{eq-eqb, ne_eqb}
-use Rattle.position.proofs.newline.Goals as goal
-
-pub returns-then-b-eq-NEWLINE : goal.returns-then-b-eq-NEWLINE
-returns-then-b-eq-NEWLINE c = rw (eq-eqb c.args.b 0x0A c.if-b-eq-NEWLINE.true)
-
-pub returns-else-b-eq-NEWLINE : goal.returns-else-b-eq-NEWLINE
-returns-else-b-eq-NEWLINE c = rw (ne_eqb c.args.b 0x0A c.if-b-eq-NEWLINE.false)

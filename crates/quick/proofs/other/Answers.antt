@@ -1,6 +1,0 @@
--- `quick::other` meets its contract: the test is the definition's, written out.
-use mathlib.Core.Bool.{or-false}
-use Rattle.quick.proofs.other.Goals as goal
-
-pub returns : goal.returns
-returns c = simp or-false

@@ -1,6 +1,0 @@
--- `reader::blob_first` meets its contract: the test is the definition's, written out.
-use mathlib.Core.Bool.{or-false}
-use Rattle.reader.proofs.blob_first.Goals as goal
-
-pub returns : goal.returns
-returns c = simp or-false

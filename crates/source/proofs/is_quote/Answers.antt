@@ -1,6 +1,0 @@
--- `source::is_quote` meets its contract: the test is the definition's, written out.
-use mathlib.Core.Bool.{or-false}
-use Rattle.source.proofs.is_quote.Goals as goal
-
-pub returns : goal.returns
-returns c = simp or-false
