@@ -12,7 +12,7 @@ use Rattle.mode.specs.Options.{is_sqlite}
 use Rattle.mode.specs.declared.Mode.{Mode}
 use Rattle.mode.specs.declared.Edition.{Edition}
 use Rattle.utf8.specs.Rfc3629.{Encoding}
-use Rattle.utf8.specs.declared.Broken.TheVariants.{Bad, Cut}
+use Rattle.utf8.specs.Laws.{number_broken}
 use Rattle.record.specs.Record.{record_at, count, mark_ok}
 use Rattle.record.specs.declared.Record.{Record}
 use Rattle.grammar.specs.Kind.{LIST, RUN}
@@ -56,8 +56,7 @@ counts_on t n i d c ps f rest =
 -- a text that is broken is refused
 unbroken : (e : Encoding) (a : Answer) → number_of (or_broken e a) ≡ 0 → number_of a ≡ 0
 unbroken (Ok u) a z = z
-unbroken (Err (Bad p)) a z = absurd (omega arith)
-unbroken (Err (Cut p)) a z = absurd (omega arith)
+unbroken (Err b) a z = absurd (number_broken b z)
 
 module _ (m : Mode) (t x : List ℕ) where
   scan_counts : (n i : ℕ) (ps : List Place) → number_of (scan_in m t x n i ps) ≡ 0 → Counted t n i ps

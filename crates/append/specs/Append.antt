@@ -4,7 +4,6 @@ use Rattle.laws.specs.First.{first, within}
 use Rattle.utf8.specs.Rfc3629 as utf8
 use Rattle.utf8.specs.Rfc3629.{Encoding, Encoded}
 use Rattle.utf8.specs.declared.Broken as utf8broken
-use Rattle.utf8.specs.declared.Broken.TheVariants.{Bad}
 use Rattle.spelling.specs.Spelling.{known}
 use Rattle.stream.specs.Stream.{Token, adds, leaves}
 use Rattle.stream.specs.Sink.{given}
@@ -40,8 +39,7 @@ broken e = not (eqb (utf8.number e) 0)
 
 -- how bytes are broken that are no text: asked of those alone
 abbrev pub fault : Encoding → utf8broken.Broken
-fault (Ok u) = Bad 0
-fault (Err b) = b
+fault e = utf8.fault e
 
 -- 1: "its count past the output's end", and 02, ix: "if the line or the column is larger than the count of bytes written"
 unfoldable pub unsound : Stream → ℕ → Bool

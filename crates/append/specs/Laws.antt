@@ -4,16 +4,15 @@ use Rattle.std.proofs.Common.{arith, ◌∙◌, sym, zero-add, suc-ne-zero}
 use Rattle.std.proofs.Math.Path.{ap}
 use Rattle.std.proofs.Math.Bool.{and-false}
 use Rattle.std.proofs.Math.ListN.{length}
-use borrow.Author.Tests.{lt-ltb, le-ltb, ltb-true, ltb-false}
+use borrow.Author.Tests.{ne_eqb, lt-ltb, le-ltb, ltb-true, ltb-false}
 use Rattle.std.specs.Borrow.{Bor}
 use Rattle.std.specs.Bool.{then_some}
 use Rattle.utf8.specs.Rfc3629 as utf8
 use Rattle.utf8.specs.Rfc3629.{Text, none, Encoding, Encoded}
 use Rattle.utf8.specs.Laws as utf8laws
-use Rattle.utf8.specs.Laws.{encoded_unique, place_within}
+use Rattle.utf8.specs.Laws.{encoded_unique, number_broken, place_within}
 use Rattle.utf8.proofs.Decided.{decided}
 use Rattle.utf8.specs.declared.Broken as utf8broken
-use Rattle.utf8.specs.declared.Broken.TheVariants.{Bad, Cut}
 use Rattle.spelling.specs.Spelling.{known, spelling}
 use Rattle.laws.specs.Tests.{or_left, or_right}
 use Rattle.laws.specs.First.{first, within, all_passed}
@@ -35,8 +34,7 @@ no_bytes (x ∷ v) e = absurd (suc-ne-zero (length v) e)
 -- bytes that are broken are refused, and how they are is not lost
 is_broken : (b : utf8broken.Broken) → broken (Err b) ≡ true
 unfolding broken
-is_broken (Bad p) = refl
-is_broken (Cut p) = refl
+is_broken b = ap not (ne_eqb (utf8.number (Err b)) 0 (number_broken b))
 
 fault_place : (e : Encoding) → utf8.place (Err (fault e)) ≡ utf8.place e
 fault_place (Ok u) = refl

@@ -6,7 +6,7 @@ use Rattle.std.proofs.Common.{arith, ◌∙◌, ap, sym, append_assoc, length-ap
 use Rattle.std.proofs.Math.Seq.{drop-append-add}
 use Rattle.utf8.specs.Rfc3629 as utf8
 use Rattle.utf8.specs.Rfc3629.{Text, Encoding}
-use Rattle.utf8.specs.declared.Broken.TheVariants.{Bad, Cut}
+use Rattle.utf8.specs.Laws.{number_broken}
 use Rattle.spelling.specs.Spelling.{known}
 use Rattle.stream.specs.Stream.{Token, adds, leaves, text, bit}
 use Rattle.append.specs.declared.Stream.{Stream}
@@ -59,9 +59,7 @@ pub record Succeeds (rec : Stream) (out : List ℕ) (t : Token) (rec' : Stream) 
 
 -- no number is 0 but that of success
 fault_number : (e : Encoding) → utf8.number (Err (fault e)) ≡ 0 → ⊥
-fault_number (Ok u) z = omega arith
-fault_number (Err (Bad p)) z = omega arith
-fault_number (Err (Cut p)) z = omega arith
+fault_number e z = number_broken (fault e) z
 
 passed : (e : Encoding) (rec : Stream) (out : List ℕ) (token : ℕ) (value : List ℕ) → number (answer_to e rec out token value) ≡ 0
     → (rec.count + length (news rec token value) ≤ length out) × (answer_to e rec out token value ≡ Ok (length (news rec token value))) × Held rec

@@ -45,6 +45,14 @@ impl Word {
         Some(Word { bytes, len })
     }
 
+    // A name that the program was started with. One that is missing or too long is empty, and no file has it.
+    fn name<R: Env>(rt: &R, i: usize) -> Word {
+        Word::started_with(rt, i).unwrap_or(Word {
+            bytes: [0u8; LONGEST],
+            len: 0,
+        })
+    }
+
     // The word itself.
     pub fn as_slice(&self) -> &[u8]
         ensures { result.now ≡ take self.now.len self.now.bytes }
@@ -112,7 +120,7 @@ pub fn before_names<R: Env>(rt: &R) -> Asked {
     }
 }
 
-// What the program was started with, where it is the options and two names, of which none is too long.
+// What the program was started with, where it is the options and two names.
 pub fn two_files<R: Env>(rt: &R) -> Option<Files> {
     let asked = before_names(rt);
     let count = arg_count(rt);
@@ -121,7 +129,7 @@ pub fn two_files<R: Env>(rt: &R) -> Option<Files> {
     }
     Some(Files {
         options: asked.options,
-        tree: Word::started_with(rt, count - 2)?,
-        text: Word::started_with(rt, count - 1)?,
+        tree: Word::name(rt, count - 2),
+        text: Word::name(rt, count - 1),
     })
 }

@@ -7,7 +7,7 @@ ghost use Rattle.grammar.specs.Grammar.{shape, node, parens};
 ghost use Rattle.pen.specs.Pen.{input, input_in, Below, WithText};
 ghost use Rattle.clause.specs.Later.{operators_later};
 
-use super::select::list_in_parens;
+use super::select::elements_in_parens;
 use super::types::{operator_clause, type_field, type_param};
 use grammar::kind::{CUSTOM_TYPE, STRUCT, UNION};
 use parts::{list, name, run, said_clause};
@@ -20,7 +20,7 @@ fn type_fields(p: Pen, out: &mut [u8], from: &Input, left: usize, value: &[u8]) 
 {
     let q = word(p, out, from, TK_AS);
     let q = said(q, out, from, value);
-    list_in_parens(q, out, from, |q, out, from| type_field(q, out, from, left))
+    elements_in_parens(q, out, from, |q, out, from| type_field(q, out, from, left))
 }
 
 // The parameters, in brackets, unless there are none.
@@ -31,7 +31,7 @@ fn params(p: Pen, out: &mut [u8], from: &Input, left: usize) -> Pen
     if r.kids == 0 {
         return pass(p, from);
     }
-    list_in_parens(p, out, from, |q, out, from| type_param(q, out, from, left))
+    elements_in_parens(p, out, from, |q, out, from| type_param(q, out, from, left))
 }
 
 // The next record, a LIST of operator clauses.

@@ -1,20 +1,25 @@
-// Select, one-select, from and table: each may hold the next, and a table a select again; the depth that is left falls. And a list in brackets.
-ghost use Rattle.std.specs.Prelude.{◌≡◌, ℕ, [], ◌∷◌};
+// Select, one-select, from and table: each may hold the next, and a table a select again; the depth that is left falls. And the lists of clauses.
+ghost use Rattle.std.specs.Prelude.{◌≡◌, ℕ, cond, [], ◌∷◌};
 ghost use Rattle.record.specs.declared.Record.{Record as Record'};
 ghost use Rattle.spelling.specs.Token.{TK_FROM as TK_FROM'};
 ghost use Rattle.grammar.specs.Kind.{SelectBody, CompoundSelect, OneSelect, Values, JoinedTable, Table, TableCall, TableSelect, Sub, CommonTableExpr};
-ghost use Rattle.grammar.specs.Shape.{Class, slot, commas as commas'};
+ghost use Rattle.grammar.specs.Shape.{Class, slot, commas as commas', row as row'};
 ghost use Rattle.grammar.specs.Grammar.{shape, node, parens, clause as clause', select as select', one_select as one_select', from_clause as from_clause', select_table, with};
 ghost use Rattle.pen.specs.Pen.{input, Writes, Always, Below, IfFlags};
 ghost use Rattle.parts.specs.Lists.{EachBelow};
+ghost use Rattle.clause.specs.Held.{held};
 ghost use Rattle.clause.specs.Parts.{filters as filters', cte_body as cte_body', is_materialized, is_not_materialized};
 
+use super::column::{column_definition, pair};
+use super::constraint::{domain_constraint, named_table_constraint};
 use super::join::join_constraint;
+use super::types::{type_field, type_param};
 use grammar::kind::{
-    COMMON_TABLE_EXPR, COMPOUND_SELECT, FROM_CLAUSE, JOINED_TABLE, NONE, ONE_SELECT, SELECT,
-    SELECT_BODY, SUB, TABLE, TABLE_CALL, TABLE_SELECT, VALUES, WITH,
+    COLUMN_DEFINITION, COMMON_TABLE_EXPR, COMPOUND_SELECT, DOMAIN_CONSTRAINT, FROM_CLAUSE,
+    JOINED_TABLE, NAMED_TABLE_CONSTRAINT, NONE, ONE_SELECT, PAIR, SELECT, SELECT_BODY, SUB, TABLE,
+    TABLE_CALL, TABLE_SELECT, TYPE_FIELD, TYPE_PARAM, VALUES, WITH,
 };
-use parts::{clause, columns, comma, in_parens, list, run, tuples, word_list};
+use parts::{clause, columns, comma, in_parens, run, tuples, word_list};
 use pen::{Input, Pen, pass, word};
 use spelling::token::{
     TK_AS, TK_FROM, TK_LP, TK_MATERIALIZED, TK_NOT, TK_RP, TK_SELECT, TK_VALUES, TK_WHERE,
@@ -57,7 +62,7 @@ pub fn body(p: Pen, out: &mut [u8], from: &Input, left: usize) -> Pen
     let next_select = |q: Pen, out: &mut [u8], from: &Input| -> Pen
         ensures { Below (input from.now) from.now.pool.now below (slot (node (CompoundSelect ∷ []))) (q, out.old) (result, out.new) }
     { compound(q, out, from, below) };
-    list(q, out, from, false, next_select)
+    parts::list(q, out, from, false, next_select)
 }
 
 // CompoundSelect (82).
@@ -154,7 +159,7 @@ pub fn from_clause(p: Pen, out: &mut [u8], from: &Input, left: usize) -> Pen
     let next_table = |q: Pen, out: &mut [u8], from: &Input| -> Pen
         ensures { Below (input from.now) from.now.pool.now below (slot (node (JoinedTable ∷ []))) (q, out.old) (result, out.new) }
     { joined(q, out, from, below) };
-    list(q, out, from, false, next_table)
+    parts::list(q, out, from, false, next_table)
 }
 
 // A joined table (86).
@@ -252,7 +257,7 @@ pub fn with_clause(p: Pen, out: &mut [u8], from: &Input, left: usize) -> Pen
     let next_cte = |q: Pen, out: &mut [u8], from: &Input| -> Pen
         ensures { Below (input from.now) from.now.pool.now below (slot (node (CommonTableExpr ∷ []))) (q, out.old) (result, out.new) }
     { cte(q, out, from, below) };
-    list(q, out, from, true, next_cte)
+    parts::list(q, out, from, true, next_cte)
 }
 
 // CommonTableExpr (106).
@@ -305,7 +310,7 @@ fn cte_body(p: Pen, out: &mut [u8], from: &Input, left: usize, flags: u16) -> Pe
 }
 
 // A LIST in brackets, with commas between its elements: each is written by element.
-pub fn list_in_parens<F: Fn(Pen, &mut [u8], &Input) -> Pen>(
+pub fn elements_in_parens<F: Fn(Pen, &mut [u8], &Input) -> Pen>(
     p: Pen,
     out: &mut [u8],
     from: &Input,
@@ -315,6 +320,60 @@ pub fn list_in_parens<F: Fn(Pen, &mut [u8], &Input) -> Pen>(
     ensures { (d : ℕ) (c : Class) → EachBelow input d c (F.post element) → Below (input from.now) from.now.pool.now d (parens (commas' c)) (p, out.old) (result, out.new) }
 {
     let q = word(p, out, from, TK_LP);
-    let q = list(q, out, from, true, element);
+    let q = parts::list(q, out, from, true, element);
+    word(q, out, from, TK_RP)
+}
+
+// The next record, a clause of this kind, if such clauses stand in lists.
+fn clause_of(p: Pen, out: &mut [u8], from: &Input, left: usize, kind: u16) -> Pen
+    ensures { Below (input from.now) from.now.pool.now left (slot (node (held kind))) (p, out.old) (result, out.new) }
+{
+    if kind == COLUMN_DEFINITION {
+        return column_definition(p, out, from, left);
+    }
+    if kind == NAMED_TABLE_CONSTRAINT {
+        return named_table_constraint(p, out, from, left);
+    }
+    if kind == TYPE_FIELD {
+        return type_field(p, out, from, left);
+    }
+    if kind == TYPE_PARAM {
+        return type_param(p, out, from, left);
+    }
+    if kind == DOMAIN_CONSTRAINT {
+        return domain_constraint(p, out, from, left);
+    }
+    if kind == PAIR {
+        return pair(p, out, from, left);
+    }
+    if kind == COMMON_TABLE_EXPR {
+        return cte(p, out, from, left);
+    }
+    if kind == COMPOUND_SELECT {
+        return compound(p, out, from, left);
+    }
+    if kind == JOINED_TABLE {
+        return joined(p, out, from, left);
+    }
+    run(p, out, from)
+}
+
+// The next record, a LIST of clauses of this kind, with commas between them or not. (For a caller who has the kind: it asks for no function, and any
+// number is answered.)
+pub fn list(p: Pen, out: &mut [u8], from: &Input, left: usize, kind: u16, commas: bool) -> Pen
+    ensures { Below (input from.now) from.now.pool.now left (cond commas (commas' (node (held kind))) (row' (node (held kind)))) (p, out.old) (result, out.new) }
+{
+    let element = |q: Pen, out: &mut [u8], from: &Input| -> Pen
+        ensures { Below (input from.now) from.now.pool.now left (slot (node (held kind))) (q, out.old) (result, out.new) }
+    { clause_of(q, out, from, left, kind) };
+    parts::list(p, out, from, commas, element)
+}
+
+// The same, with commas and in brackets.
+pub fn list_in_parens(p: Pen, out: &mut [u8], from: &Input, left: usize, kind: u16) -> Pen
+    ensures { Below (input from.now) from.now.pool.now left (parens (commas' (node (held kind)))) (p, out.old) (result, out.new) }
+{
+    let q = word(p, out, from, TK_LP);
+    let q = list(q, out, from, left, kind, true);
     word(q, out, from, TK_RP)
 }

@@ -131,7 +131,7 @@ fn print_lines(text: &[u8])
     let mut rest = text;
     while !kind.is_last() {
         let at = text.len() - rest.len();
-        let behind = reader::read(rest, &mut kind, &mut start);
+        let behind = reader::read_kind(rest, &mut kind, &mut start);
         let len = rest.len() - start - behind.len();
         out.add(kind, (at + start) as u32, len as u32);
         rest = behind;

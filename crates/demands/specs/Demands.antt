@@ -16,7 +16,7 @@ use Rattle.tree.specs.Check as tree
 use Rattle.tree.specs.Check.{Answer}
 use Rattle.tree.specs.declared.Refusal.{Refusal}
 use Rattle.tree.specs.declared.Refusal.TheVariants.{Malformed, TooLong, Broken, Mark, Misfit, Outside, Unclosed, NotRowid, Deep, Ends}
-use Rattle.utf8.specs.declared.Broken.TheVariants.{Bad, Cut}
+use Rattle.utf8.specs.Laws.{number_broken}
 use Rattle.tokens.specs.Tokens.{tokens_of as treeTokens}
 use Rattle.mode.specs.declared.Mode.{Mode}
 use Rattle.tokens.specs.Tokens.{in_edition}
@@ -86,8 +86,7 @@ appended_never_shared {ls₁ = ls₁} {ls₂ = ls₂} {lx₁ = lx₁} {lx₂ = l
 not_zero : (r : Refusal) → tree.number_of (Err r) ≡ 0 → ⊥
 not_zero Malformed z = omega arith
 not_zero TooLong z = omega arith
-not_zero (Broken (Bad p)) z = omega arith
-not_zero (Broken (Cut p)) z = omega arith
+not_zero (Broken b) z = number_broken b z
 not_zero (Mark i) z = omega arith
 not_zero (Misfit i) z = omega arith
 not_zero (Outside i) z = omega arith

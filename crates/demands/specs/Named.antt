@@ -9,10 +9,9 @@ use Rattle.laws.specs.Text.{ascii}
 use Rattle.mode.specs.declared.Edition.TheVariants.{Crate}
 use Rattle.mode.specs.declared.Mode.{Mode}
 use Rattle.utf8.specs.Rfc3629.{Text, In, one, Encoding, Encoded}
-use Rattle.utf8.specs.declared.Broken.TheVariants.{Bad, Cut}
 use Rattle.utf8.specs.Scan.{ones, counted, width}
 use Rattle.utf8.proofs.Characters.{width_none}
-use Rattle.utf8.specs.Laws.{text_char, text_first}
+use Rattle.utf8.specs.Laws.{number_broken, text_char, text_first}
 use Rattle.utf8.proofs.Laws.{text_rest}
 use Rattle.blank.specs.Blank.{blank, all_blank}
 use Rattle.spelling.specs.Rows as spellings
@@ -93,5 +92,4 @@ refused_all_the_same m t a c z = by (malformed t) c.encoding _ c.encoded (sym (a
     by : (f : Bool) (e : Encoding) (s : Answer) → Encoded (0x61 ∷ 0xFF ∷ []) e → number_of (cond f (Err Malformed) (or_broken e s)) ≡ 0 → ⊥
     by true e s k h = omega arith
     by false (Ok u) s k h = no_text k
-    by false (Err (Bad p)) s k h = omega arith
-    by false (Err (Cut p)) s k h = omega arith
+    by false (Err b) s k h = number_broken b h

@@ -5,7 +5,7 @@ use Rattle.mode.specs.Options.{plain}
 use Rattle.mode.specs.declared.Edition.TheVariants.{Crate}
 use Rattle.mode.specs.declared.Mode.{Mode}
 use Rattle.utf8.specs.Rfc3629.{Encoding}
-use Rattle.utf8.specs.declared.Broken.TheVariants.{Bad, Cut}
+use Rattle.utf8.specs.Laws.{number_broken}
 use Rattle.record.specs.Record.{record_at, count}
 use Rattle.grammar.specs.Grammar.{root}
 use Rattle.tree.specs.Check as tree
@@ -30,8 +30,7 @@ use Rattle.field.specs.declared.Refusal.TheVariants.{Measure, Unfit}
 not_zero : (r : TreeRefusal) → tree.number_of (Err r) ≡ 0 → ⊥
 not_zero Malformed z = omega arith
 not_zero TooLong z = omega arith
-not_zero (Broken (Bad p)) z = omega arith
-not_zero (Broken (Cut p)) z = omega arith
+not_zero (Broken b) z = number_broken b z
 not_zero (Mark i) z = omega arith
 not_zero (Misfit i) z = omega arith
 not_zero (Outside i) z = omega arith

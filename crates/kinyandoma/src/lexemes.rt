@@ -7,8 +7,8 @@ use reader::Kind;
 pub fn kinyandoma_lexeme(text: &[u8], start: &mut usize, rest: &mut usize) -> u32
     ensures { Lexed text.now result start.new rest.new }
 {
-    let mut kind = Kind::End;
+    let mut kind = u32::from(Kind::End);
     let behind = reader::read(text, &mut kind, start);
     *rest = text.len() - behind.len();
-    u32::from(kind)
+    kind
 }

@@ -1,7 +1,23 @@
 // What the replaying programs share: reading cases from standard input, and printing a line for each.
 #![tactic(auto)]
 
-ghost use Rattle.std.specs.Prelude.{◌≡◌, false, [], ◌∷◌, ◌*◌, ◌^◌, ◌≤◌, ◌<◌, length};
+ghost use Rattle.std.specs.Prelude.{
+  ℕ,
+  ◌≡◌,
+  false,
+  [],
+  ◌∷◌,
+  ◌+◌,
+  ◌*◌,
+  ◌^◌,
+  ◌≤◌,
+  ◌<◌,
+  length,
+  take,
+  drop,
+  get_or,
+};
+ghost use Rattle.io.specs.Counts.{IsPrefixLen};
 ghost use Rattle.laws.specs.Little.{from_little};
 
 use files::STDOUT_FILENO;
@@ -23,7 +39,14 @@ const BYTES: usize = 65536;
 
 const HEX: usize = 2 * BYTES;
 
-const DIGITS: [u8; 16] = *b"0123456789abcdef";
+const DIGITS: &[u8; 16] = b"0123456789abcdef";
+
+// The most bytes of a number's text, of that with a byte behind it, and of two such.
+const DECIMAL: usize = 20;
+
+const NUMBER: usize = DECIMAL + 1;
+
+const NUMBERS: usize = 2 * NUMBER;
 
 // The number that four bytes hold, the lowest first.
 pub fn word(a: u8, b: u8, c: u8, d: u8) -> usize
@@ -38,22 +61,34 @@ pub fn fill(part: &mut [u8]) -> bool {
     io::read_full(STDIN_FILENO, part) == len
 }
 
-// Reads the numbers in front of a case, each of four bytes: none at the end of the input, and where it comes in the midst of them this is printed.
-pub fn head<const N: usize>() -> Option<[u32; N]> {
-    let mut words = [0; N];
+// The numbers that some bytes hold, four bytes each.
+fn numbers<const N: usize>(bytes: &[u8]) -> [u32; N]
+    requires { 4 * N ≤ length bytes.now }
+    ensures { (i : ℕ) → i < N → get_or result i 0 ≡ from_little (take 4 (drop (4 * i) bytes.now)) }
+{
+    let mut held = [0; N];
     for i in 0..N {
-        let mut bytes = [0u8; WORD];
-        let got = io::read_full(STDIN_FILENO, &mut bytes);
-        if i == 0 && got == 0 {
-            return None;
-        }
-        if got < WORD {
-            stop(b"cut off\n");
-            return None;
-        }
-        words[i] = u32::from_le_bytes(bytes);
+        let at = WORD * i;
+        held[i] = word(bytes[at], bytes[at + 1], bytes[at + 2], bytes[at + 3]) as u32;
     }
-    Some(words)
+    held
+}
+
+// Reads the numbers in front of a case, each of four bytes: none at the end of the input, and where it comes in the midst of them this is printed.
+// They are read at once, as an input of messages has them.
+pub fn head<const N: usize>() -> Option<[u32; N]> {
+    let mut bytes = [[0u8; WORD]; N];
+    let all = bytes.as_flattened_mut();
+    let want = all.len();
+    let got = io::read_full(STDIN_FILENO, all);
+    if got == 0 && 0 < want {
+        return None;
+    }
+    if got < want {
+        stop(b"cut off\n");
+        return None;
+    }
+    Some(numbers(bytes.as_flattened()))
 }
 
 // Replays case after case, as long as one may follow. The turns are counted, up to a number that no input uses up: nothing says that it ends.
@@ -117,14 +152,33 @@ pub fn stop(why: &[u8]) -> bool
     false
 }
 
+// Puts a number's text into a line, its first byte at a place, and answers the place behind its last.
+fn put_number(n: u64, line: &mut [u8], at: usize) -> usize
+    requires { at + 20 ≤ length line.old }
+    ensures { result ≤ at + 20 }
+{
+    let mut digits = [0u8; DECIMAL];
+    let count = io::decimal(n, &mut digits);
+    line[at..at + count].copy_from_slice(&digits[..count]);
+    at + count
+}
+
 // Prints a number and a byte behind it, and answers whether they were written.
 pub fn print_number(n: u64, behind: u8) -> bool {
-    io::print_decimal(STDOUT_FILENO, n) && print(&[behind])
+    let mut line = [0u8; NUMBER];
+    let end = put_number(n, &mut line, 0);
+    line[end] = behind;
+    print(&line[..end + 1])
 }
 
 // Prints two numbers with a space between them and a byte behind them, and answers whether they were written.
 pub fn print_numbers(a: u64, b: u64, behind: u8) -> bool {
-    print_number(a, b' ') && print_number(b, behind)
+    let mut line = [0u8; NUMBERS];
+    let space = put_number(a, &mut line, 0);
+    line[space] = b' ';
+    let end = put_number(b, &mut line, space + 1);
+    line[end] = behind;
+    print(&line[..end + 1])
 }
 
 // The hexadecimal digit of a number below 16.
@@ -134,14 +188,16 @@ fn digit(n: u8) -> u8
     DIGITS[n as usize]
 }
 
-// Puts the digits of some bytes at the start of digits.
-fn hex(bytes: &[u8], digits: &mut [u8])
+// Puts the digits of some bytes at the start of digits, and answers how many there are.
+fn hex(bytes: &[u8], digits: &mut [u8]) -> usize
     requires { 2 * length bytes.now ≤ length digits.old }
+    ensures { IsPrefixLen result digits.new }
 {
     for (i, byte) in bytes.iter().enumerate() {
         digits[2 * i] = digit(byte / 16);
         digits[2 * i + 1] = digit(byte % 16);
     }
+    2 * bytes.len()
 }
 
 // Prints some bytes in hex, or `-` for none, and answers whether they were written: more than 65,536 are not.
@@ -153,6 +209,6 @@ pub fn print_bytes(bytes: &[u8]) -> bool {
         return stop(b"too long for this program\n");
     }
     let mut digits = [0u8; HEX];
-    hex(bytes, &mut digits);
-    print(&digits[..2 * bytes.len()])
+    let n = hex(bytes, &mut digits);
+    print(&digits[..n])
 }

@@ -288,7 +288,7 @@ fn next(text: &[u8]) -> Lexeme
 }
 
 // Reads one lexeme of a text: its kind and where it starts are stored, and the rest of the text is handed back.
-pub fn read<'a>(text: &'a [u8], kind: &mut Kind, start: &mut usize) -> &'a [u8]
+pub fn read_kind<'a>(text: &'a [u8], kind: &mut Kind, start: &mut usize) -> &'a [u8]
     ensures { Gives text.now (number_of kind.new) start.new result.now }
 {
     let l = next(text);
@@ -296,4 +296,14 @@ pub fn read<'a>(text: &'a [u8], kind: &mut Kind, start: &mut usize) -> &'a [u8]
     *start = l.start;
     let end = l.end;
     &text[end..]
+}
+
+// The same, with the number of the kind.
+pub fn read<'a>(text: &'a [u8], kind: &mut u32, start: &mut usize) -> &'a [u8]
+    ensures { Gives text.now kind.new start.new result.now }
+{
+    let mut found = Kind::End;
+    let rest = read_kind(text, &mut found, start);
+    *kind = u32::from(found);
+    rest
 }

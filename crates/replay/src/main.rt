@@ -82,27 +82,25 @@ fn replay_tokens(tokens: u8, text: &mut [u8; TEXT]) -> Option<Case>
     Some(case)
 }
 
-// Prints the line of a case that was written, whose bytes are at the start of text, and answers whether it was written.
-fn print_written(rec: Stream, text: &[u8]) -> bool
+// Prints the line of a case that was written, whose bytes are at the start of text.
+fn print_written(rec: Stream, text: &[u8])
     requires count_le_room { rec.count ≤ room }
     requires text_len { length text.now ≡ room }
 {
     let count = rec.count;
-    let bit = if rec.spaced { 1 } else { 0 };
-    lines::print_bytes(&text[..count])
-        && lines::print(b" ")
-        && lines::print_number(bit, b' ')
-        && lines::print_numbers(rec.line as u64, rec.column as u64, b'\n')
+    lines::print_bytes(&text[..count]);
+    lines::print(if rec.spaced { b" 1 " } else { b" 0 " });
+    lines::print_numbers(rec.line as u64, rec.column as u64, b'\n');
 }
 
-// Prints the line of a case with a token that was refused, its number and its place, and answers whether it was written.
-fn print_refused(refusal: Refusal) -> bool {
+// Prints the line of a case with a token that was refused: the refusal's number and place.
+fn print_refused(refusal: Refusal) {
     let answer = Err(refusal);
-    lines::print(b"refused ")
-        && lines::print_numbers(append::number(answer), append::place(answer), b'\n')
+    lines::print(b"refused ");
+    lines::print_numbers(append::number(answer), append::place(answer), b'\n');
 }
 
-// Replays a case and prints its line, and answers whether to go on: not at the end of the input.
+// Replays a case and prints its line, and answers whether to go on: not at the end of the input. A line that cannot be written is no reason to stop.
 fn replay_case() -> bool {
     let mut tokens = [0u8; 1];
     if !lines::fill(&mut tokens) {
@@ -112,8 +110,9 @@ fn replay_case() -> bool {
     match replay_tokens(tokens[0], &mut text) {
         Some(Ok(rec)) => print_written(rec, &text),
         Some(Err(refusal)) => print_refused(refusal),
-        None => lines::stop(b"cut off\n"),
+        None => return lines::stop(b"cut off\n"),
     }
+    true
 }
 
 fn main() {

@@ -6,16 +6,25 @@
 // the start and the length of its tree, each of eight; the trees' bytes, and the text's.
 #![tactic(auto)]
 
+ghost use Rattle.std.specs.Prelude.{◌+◌, ◌≤◌, length};
+
 use render::jobs::Job;
 
 // The numbers before the jobs: the options, the number of jobs and three lengths.
 const HEAD: usize = 5;
 
-// The bytes of the start of a tree, and of its length.
+// The bytes of the start of a tree, and of that with its length.
 const PLACE: usize = 8;
 
-// More than the most jobs of a case.
+const JOB: usize = 2 * PLACE;
+
+// One more than the largest number of four bytes.
+const WORD: u64 = 0x1_0000_0000;
+
+// More than the most jobs of a case, and their bytes.
 const MOST: usize = 32;
+
+const JOBS: usize = JOB * MOST;
 
 // The most bytes of the trees and of the text of a case, more than the check admits.
 const ROOM: usize = 69632;
@@ -36,21 +45,26 @@ fn fresh(tree_start: u64, tree_len: u64) -> Job {
     }
 }
 
-// Reads a job. Nothing where the input ends first.
-fn read_job() -> Option<Job> {
-    let mut start = [0u8; PLACE];
-    let mut len = [0u8; PLACE];
-    if !lines::fill(&mut start) || !lines::fill(&mut len) {
-        return None;
-    }
-    Some(fresh(u64::from_le_bytes(start), u64::from_le_bytes(len)))
+// The number of eight bytes from a place on, the lowest first.
+fn number(bytes: &[u8], at: usize) -> u64
+    requires { at + 8 ≤ length bytes.now }
+{
+    let low = lines::word(bytes[at], bytes[at + 1], bytes[at + 2], bytes[at + 3]);
+    let high = lines::word(bytes[at + 4], bytes[at + 5], bytes[at + 6], bytes[at + 7]);
+    low as u64 + high as u64 * WORD
 }
 
 // Reads so many jobs; behind them are jobs outside every buffer, which add nothing. Nothing where the input ends first.
-fn read_jobs(count: usize) -> Option<[Job; MOST]> {
+fn read_jobs(count: usize) -> Option<[Job; MOST]>
+    requires { count ≤ 32 }
+{
+    let mut bytes = [0u8; JOBS];
+    if !lines::fill(&mut bytes[..JOB * count]) {
+        return None;
+    }
     let mut jobs = [fresh(u64::MAX, u64::MAX); MOST];
-    for job in jobs.iter_mut().take(count) {
-        *job = read_job()?;
+    for (i, job) in jobs.iter_mut().take(count).enumerate() {
+        *job = fresh(number(&bytes, JOB * i), number(&bytes, JOB * i + PLACE));
     }
     Some(jobs)
 }
@@ -88,13 +102,9 @@ fn print_ran(jobs: &[Job], count: usize, out: &[u8]) -> bool {
 }
 
 // Reads the trees and the text into all of their parts, makes the call with so much room, prints the line, and answers whether to go on.
-fn replay_parts(
-    options: u32,
-    count: usize,
-    trees: &mut [u8],
-    text: &mut [u8],
-    room: usize,
-) -> bool {
+fn replay_parts(options: u32, count: usize, trees: &mut [u8], text: &mut [u8], room: usize) -> bool
+    requires { count ≤ 32 }
+{
     let mut out = [BEFORE; OUTPUT];
     if OUTPUT < room {
         return lines::stop(b"too long for this program\n");

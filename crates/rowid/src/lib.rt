@@ -33,8 +33,11 @@ pub fn names(text: &[u8]) -> bool
     ensures { result ≡ names' text.now }
 {
     let parts = white::split(text);
+    if parts.count != TWO_PARTS {
+        return false;
+    }
     match (white::first_part(text), parts.second) {
-        (Some(first), Some(second)) if parts.count == TWO_PARTS => {
+        (Some(first), Some(second)) => {
             part_is(text, first, b"WITHOUT") & part_is(text, second, b"ROWID")
         }
         _ => false,

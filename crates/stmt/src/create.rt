@@ -12,7 +12,7 @@ use clause::column::pair;
 use clause::constraint::domain_constraint;
 use clause::create_table::create_table_body;
 use clause::custom::create_type_body;
-use clause::select::{list_in_parens, select};
+use clause::select::{elements_in_parens, select};
 use corners::number;
 use grammar::kind::NONE;
 use parts::{clause, columns, if_not_exists, in_parens, lines, list, name, run, word_if};
@@ -32,7 +32,7 @@ fn index_options(p: Pen, out: &mut [u8], from: &Input, left: usize) -> Pen
         return pass(p, from);
     }
     let q = word(p, out, from, TK_WITH);
-    list_in_parens(q, out, from, |q, out, from| pair(q, out, from, left))
+    elements_in_parens(q, out, from, |q, out, from| pair(q, out, from, left))
 }
 
 // CreateIndex (37).

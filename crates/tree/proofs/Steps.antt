@@ -83,16 +83,16 @@ token_childless r fe =
     only false h = h
 
 pub along_start : (t x : List ℕ) (i : ℕ) (ps : List Place) → i ≤ count t → Along t x i ps i ps
-along_start t x i ps h = record { ended = h; is = λ rest. refl }
+along_start t x i ps h = record { onward = omega arith; ended = h; is = λ rest. refl }
 
 -- no places are filled by no records
 pub nothing_walked : (t x : List ℕ) (i : ℕ) → i ≤ count t → Walks t x i [] (Ok i)
-nothing_walked t x i h = record { is = λ rest. refl; ended = h; small = tt }
+nothing_walked t x i h = record { onward = omega arith; is = λ rest. refl; ended = h; small = tt }
 
 -- along what may stand in the places: cs is left
 module _ (t x : List ℕ) (i : ℕ) (ps : List Place) (j left : ℕ) (cs : List Class) (a : Along t x i ps j (map (place (65 - left)) cs)) where
   pub row_end : cs ≡ [] → Walks t x i ps (Ok j)
-  row_end e = record { is = λ rest. sym (rw e at (a.is rest)); ended = a.ended; small = tt }
+  row_end e = record { onward = a.onward; is = λ rest. sym (rw e at (a.is rest)); ended = a.ended; small = tt }
 
   module _ (c : Class) (ds : List Class) (split : cs ≡ c ∷ ds) where
     from_here : (rest : List Place) → scan t x (count t - j) j (place (65 - left) c ∷ (map (place (65 - left)) ds ++ rest)) ≡ scan t x (count t - i) i (ps ++ rest)
@@ -100,7 +100,7 @@ module _ (t x : List ℕ) (i : ℕ) (ps : List Place) (j left : ℕ) (cs : List 
 
     -- the next place is where the walk stops
     stops : (e : Refusal) → Small e → ((qs : List Place) → scan t x (count t - j) j (place (65 - left) c ∷ qs) ≡ Err e) → Walks t x i ps (Err e)
-    stops e s w = record { is = λ rest. sym (from_here rest) ∙ w (map (place (65 - left)) ds ++ rest); ended = tt; small = s }
+    stops e s w = record { onward = tt; is = λ rest. sym (from_here rest) ∙ w (map (place (65 - left)) ds ++ rest); ended = tt; small = s }
 
     -- in it is no record, or one with a fault; or one with none, and all below it come to w
     module _ (r : Record) (re : r ≡ record_at t j) where
@@ -114,7 +114,7 @@ module _ (t x : List ℕ) (i : ℕ) (ps : List Place) (j left : ℕ) (cs : List 
         pub row_filled : (k : ℕ) → Walks t x (j + 1) (map (place (65 - (left - 1))) (holds c r)) (Ok k) → Along t x i ps k (map (place (65 - left)) ds)
         row_filled k w =
             let d = down t x r j left c re z l (Ok k) w in
-            record { ended = w.ended; is = λ rest. sym (d.is (map (place (65 - left)) ds ++ rest)) ∙ from_here rest }
+            record { onward = omega (arith, a.onward, d.onward); ended = w.ended; is = λ rest. sym (d.is (map (place (65 - left)) ds ++ rest)) ∙ from_here rest }
 
 -- the first of n that are left, and the others; and that none is left
 module _ (p n : ℕ) where

@@ -1,5 +1,5 @@
 -- What a walk of the tree meets in a place, against the scan by index.
-use Rattle.std.specs.Prelude.{ℕ, suc, ◌+◌, ◌-◌, ◌*◌, ◌/◌, ◌%◌, ◌≤◌, ◌<◌, ◌≡◌, refl, List, [], ◌∷◌, ◌++◌, map, Bool, true, false, not, cond, eqb, leb, ltb, Result, Ok, Err}
+use Rattle.std.specs.Prelude.{ℕ, suc, ◌+◌, ◌-◌, ◌*◌, ◌/◌, ◌%◌, ◌≤◌, ◌<◌, ◌≡◌, refl, List, [], ◌∷◌, ◌++◌, map, Bool, true, false, not, cond, eqb, leb, ltb, Result, Ok, Err, IfOk}
 use Rattle.std.proofs.Common.{arith, ◌∙◌, ap, sym}
 use borrow.Author.Tests.{eqb-true, eqb-false, lt-ltb, le-ltb, lt-leb, le-leb, leb-true, leb-false, ltb-false, not-false}
 use Rattle.laws.specs.First.{first}
@@ -182,5 +182,9 @@ module _ (t x : List ℕ) (r : Record) (i left : ℕ) (c : Class) where
           ∙ faultless x r i left c (met_none z) _
           ∙ ap (λ (n : ℕ). scan t x (count t - (i + 1)) (i + 1) (map (place n) (holds c r) ++ ps)) d
 
+      back : (w : Result ℕ Refusal) → IfOk w (λ j. i + 1 ≤ j) → IfOk w (λ j. i ≤ j)
+      back (Ok j) h = omega (arith, h)
+      back (Err e) h = tt
+
       pub down : (w : Result ℕ Refusal) → Walks t x (i + 1) (map (place (65 - (left - 1))) (holds c r)) w → Walks t x i (place (65 - left) c ∷ []) w
-      down w b = record { is = λ rest. goes_on rest ∙ b.is rest; ended = b.ended; small = b.small }
+      down w b = record { onward = back w b.onward; is = λ rest. goes_on rest ∙ b.is rest; ended = b.ended; small = b.small }

@@ -44,8 +44,9 @@ resumed t x (Ok j) ps = scan t x (count t - j) j ps
 resumed t x (Err a) ps = Err a
 
 -- w is what the records from index i on come to that must fill the places ps, whatever places follow; an index behind them is no
--- further than the tree's end
+-- further than the tree's end, and no walk goes back
 pub record Walks (t x : List ℕ) (i : ℕ) (ps : List Place) (w : Result ℕ Refusal) : Type 0 where
+  pub onward : IfOk w (λ j. i ≤ j)
   pub is : (rest : List Place) → scan t x (count t - i) i (ps ++ rest) ≡ resumed t x w rest
   pub ended : IfOk w (λ j. j ≤ count t)
   pub small : IfErr w Small

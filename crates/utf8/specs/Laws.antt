@@ -3,6 +3,7 @@
 use Rattle.std.specs.Prelude.{ℕ, ◌≤◌, ◌<◌, ◌≡◌, refl, List, ◌++◌, Bool, true, false, not, ◌&&◌, ◌||◌, ◌↔◌, ltb, eqb, length, drop, get_or, Ok, Err}
 use Rattle.std.proofs.Common.{ap, append_assoc, append-nil, arith, lt-ltb, ltb-true, ltb-false, eq-eqb, ne_eqb}
 use Rattle.std.proofs.Math.Seq.{take-length}
+use Rattle.utf8.specs.declared.Broken.{Broken}
 use Rattle.utf8.specs.declared.Broken.TheVariants.{Bad, Cut}
 use Rattle.utf8.specs.Rfc3629.{Tail, Char, Text, none, more, Begins, Ends, Encoding, Encoded, number, place, tail, boundary}
 use Rattle.utf8.specs.Characters.{NoChar, tail_true, true_tail}
@@ -59,6 +60,11 @@ pub place_within : (s : List ℕ) (e : Encoding) → Encoded s e → place e ≤
 place_within s (Ok _) h = omega arith
 place_within s (Err (Bad p)) h = omega (arith, h.0.0)
 place_within s (Err (Cut p)) h = omega (arith, h.0.0)
+
+-- its number is not 0 where the bytes are broken, in whatever way
+pub number_broken : (b : Broken) → number (Err b) ≡ 0 → ⊥
+number_broken (Bad p) z = omega arith
+number_broken (Cut p) z = omega arith
 
 -- the answer's number says whether the bytes are a text
 pub number_text : (s : List ℕ) (r : Encoding) → Encoded s r → (number r ≡ 0) ↔ Text s

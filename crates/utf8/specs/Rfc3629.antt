@@ -77,6 +77,11 @@ place (Ok _) = 0
 place (Err (Bad p)) = p
 place (Err (Cut p)) = p
 
+-- how bytes are broken that are no text: asked of those alone
+abbrev pub fault : Encoding → Broken
+fault (Ok _) = Bad 0
+fault (Err b) = b
+
 -- the byte is a UTF8-tail
 abbrev pub tail : ℕ → Bool
 tail x = leb 0x80 x && leb x 0xBF

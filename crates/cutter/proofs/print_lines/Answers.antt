@@ -10,4 +10,4 @@ pub loop-rest-smaller : goal.loop-rest-smaller
 loop-rest-smaller c =
     let loop = c.loop-rest in
     let goes : going (number_of loop.kind) ≡ 1 = rw (sym c.is_last.ensures ∙ c.loop-rest-test.true) in
-    rw goes (fewer _ _ _ _ c.read-behind.ensures)
+    rw goes (fewer _ _ _ _ c.read_kind-behind.ensures)

@@ -17,4 +17,4 @@ returns c r =
     let at-list = c in
     let at-if1 = at-list in
     let at_read = at-if1 in
-    filled_some at_read.read-r.ensures at-if1.if-r-eq0.false (at-list.list_in_parens.ensures _ (node (TypeParam ∷ [])) (λ q r o o' b h. search rules) r)
+    filled_some at_read.read-r.ensures at-if1.if-r-eq0.false (at-list.elements_in_parens.ensures _ (node (TypeParam ∷ [])) (λ q r o o' b h. search rules) r)

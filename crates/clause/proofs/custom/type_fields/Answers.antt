@@ -13,4 +13,4 @@ returns c v h r =
     let at-word = at-said in
     at-word.word-q.ensures _ _ r
     ▹ a_said v h at-said.said-q.ensures
-    ▹ at_fields.list_in_parens.ensures _ (node (TypeField ∷ [])) (λ q r o o' b h. search rules) r
+    ▹ at_fields.elements_in_parens.ensures _ (node (TypeField ∷ [])) (λ q r o o' b h. search rules) r

@@ -9,4 +9,4 @@ pub overflow_sub-rest : goal.overflow_sub-rest
 overflow_sub-rest c = omega (arith, inside _ _ _ _ c.read-behind.ensures)
 
 pub returns : goal.returns
-returns c = rw c.from.ensures (crossed _ _ _ _ c.read-behind.ensures)
+returns c = crossed _ _ _ _ c.read-behind.ensures

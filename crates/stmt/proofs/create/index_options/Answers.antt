@@ -19,4 +19,4 @@ returns c r =
     let at-word = at-list in
     let at-if1 = at-word in
     let at_read = at-if1 in
-    filled_some at_read.read-r.ensures at-if1.if-r-eq0.false (at-word.word-q.ensures _ _ r ▹ at-list.list_in_parens.ensures _ (node (Pair ∷ [])) (λ q r o o' b h. search rules) r)
+    filled_some at_read.read-r.ensures at-if1.if-r-eq0.false (at-word.word-q.ensures _ _ r ▹ at-list.elements_in_parens.ensures _ (node (Pair ∷ [])) (λ q r o o' b h. search rules) r)

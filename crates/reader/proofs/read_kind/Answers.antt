@@ -1,7 +1,7 @@
--- `reader::read` meets its contract: what `next` finds is stored, and the part behind its end handed back.
+-- `reader::read_kind` meets its contract: what `next` finds is stored, and the part behind its end handed back.
 use borrow.Author.Rules.{rules}
 use Rattle.laws.specs.Rest.{rest}
-use Rattle.reader.proofs.read.Goals as goal
+use Rattle.reader.proofs.read_kind.Goals as goal
 
 pub returns : goal.returns
 returns c =
