@@ -1,5 +1,5 @@
 -- `asked::option` meets its contract: it goes by the definition's tests, since the library compares words as `same` does.
-use Rattle.std.proofs.Common.{ℕ, ◌≡◌, List, [], ◌∷◌, Bool, true, false, nat_eq, refl, sym, ◌∙◌, arith}
+use Rattle.std.proofs.Common.{ℕ, ◌≡◌, List, [], ◌∷◌, Bool, true, false, nat_eq, refl, sym, ◌∙◌, arith, rules}
 use lib.Pointwise.{pointwise}
 use Rattle.laws.specs.Bytes.{same}
 use Rattle.laws.specs.Text.{ascii}
@@ -17,20 +17,20 @@ told w v u e f = rw (← f, e) (sym (alike w v))
 
 pub returns-then-eq : goal.returns-then-eq
 unfolding option_of
-returns-then-eq c = rw (told c.args.word.now c.as_slice.result.now (ascii "--strict") c.eq.ensures c.as_slice.ensures ∙ c.if-eq.true) (refl, omega arith)
+returns-then-eq c = rw (told c.args.word.now c.as_slice.result.now (ascii "--strict") c.eq.ensures (search rules) ∙ c.if-eq.true) (refl, omega arith)
 
 pub returns-then-eq-2 : goal.returns-then-eq-2
 unfolding option_of
 returns-then-eq-2 c =
     rw (
-      told c.args.word.now c.as_slice.result.now (ascii "--strict") c.eq.ensures c.as_slice.ensures ∙ c.if-eq.false,
-      told c.args.word.now c.as_slice-2.result.now (ascii "--sqlite") c.eq-2.ensures c.as_slice-2.ensures ∙ c.if-eq-2.true,
+      told c.args.word.now c.as_slice.result.now (ascii "--strict") c.eq.ensures (search rules) ∙ c.if-eq.false,
+      told c.args.word.now c.as_slice-2.result.now (ascii "--sqlite") c.eq-2.ensures (search rules) ∙ c.if-eq-2.true,
     ) (refl, omega arith)
 
 pub returns : goal.returns
 unfolding option_of
 returns c =
     rw (
-      told c.args.word.now c.as_slice.result.now (ascii "--strict") c.eq.ensures c.as_slice.ensures ∙ c.if-eq.false,
-      told c.args.word.now c.as_slice-2.result.now (ascii "--sqlite") c.eq-2.ensures c.as_slice-2.ensures ∙ c.if-eq-2.false,
+      told c.args.word.now c.as_slice.result.now (ascii "--strict") c.eq.ensures (search rules) ∙ c.if-eq.false,
+      told c.args.word.now c.as_slice-2.result.now (ascii "--sqlite") c.eq-2.ensures (search rules) ∙ c.if-eq-2.false,
     )

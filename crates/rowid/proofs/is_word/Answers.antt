@@ -10,7 +10,7 @@ pub returns-then-bytes-word : goal.returns-then-bytes-word
 returns-then-bytes-word c =
     let s = c.args.bytes.now in
     let w = c.args.word.now in
-    all_from_yields_List {s = c.zip.result} (λ p. nat_eq (to_ascii_uppercase p.0) p.1) c.all.new.self _ c.all.result c.all.ensures.ran (YieldsList-from_zip (YieldsList-from_slice s cc) (YieldsList-from_slice w cc)) (λ x b q k. search (rules, tests))
+    all_from_yields_List {s = c.zip.result} (λ p. nat_eq (to_ascii_uppercase p.0) p.1) c.all.new.self _ c.all.result c.all.ensures.ran (YieldsList-from_zip (YieldsList-from_slice s cc) (YieldsList-from_slice w cc)) (λ x b q k. (search rules, search (rules, tests)))
     ∙ zipped s w c.if-bytes-word.true
 
 pub returns-else-bytes-word : goal.returns-else-bytes-word
