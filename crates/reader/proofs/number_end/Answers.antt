@@ -1,5 +1,5 @@
 -- `reader::number_end` meets its contract: the digits end the number, unless a dot with a digit behind it follows.
-use Rattle.std.proofs.Common.{ℕ, ◌+◌, ◌≤◌, sym, ◌∙◌, arith, length}
+use Rattle.std.proofs.Common.{◌+◌, sym, ◌∙◌, arith}
 use borrow.Author.Tests.{ne_eqb, eq-eqb}
 use Rattle.reading.specs.Bytes.{digit, dot}
 use Rattle.reader.specs.Numbers.{takes_inside, number_whole, no_dot_left, no_dot}
@@ -10,7 +10,7 @@ use Rattle.reader.proofs.number_end.Goals as goal
 pub overflow_add-end : goal.overflow_add-end
 overflow_add-end c =
     let args = c.args in
-    let digits = c.bytes_end-end in
+    let digits = c.long_end-end in
     let first = c.requires in
     let inside = takes_inside digit args.text.now (args.at + 1) digits.result (omega arith) (digits.ensures digit (λ b r is. is)) in
     omega arith
@@ -18,15 +18,15 @@ overflow_add-end c =
 pub returns-then-digit : goal.returns-then-digit
 returns-then-digit c =
     let args = c.args in
-    let digits = c.bytes_end-end in
+    let digits = c.long_end-end in
     number_dotted args.text.now args.at digits.result _ c.requires (digits.ensures digit (λ b r is. is)) c.if-end-text.true
-    c.if-text-end-eq-DOT.true (sym c.digit.ensures ∙ c.if-digit.true) (c.bytes_end.ensures digit (λ b r is. is))
+    c.if-text-end-eq-DOT.true (sym c.digit.ensures ∙ c.if-digit.true) (c.long_end.ensures digit (λ b r is. is))
 
 pub returns : goal.returns
 returns c =
     let args = c.args in
     let text = args.text.now in
-    let digits = c.bytes_end-end in
+    let digits = c.long_end-end in
     let first = c.requires in
     let ends = digits.ensures digit (λ b r is. is) in
     let whole = number_whole text args.at digits.result first ends in
