@@ -2,7 +2,7 @@
 use Rattle.std.specs.Prelude.{ℕ, ◌+◌, ◌≤◌, ◌≡◌, List, [], ◌∷◌, Bool, false, ◌||◌, ◌&&◌, leb, length, drop, Option, Some, None}
 use Rattle.laws.specs.Among.{among}
 use Rattle.reading.specs.Bytes.{blanks}
-use Rattle.reading.specs.Number.{Taken, taken, unclosed}
+use Rattle.reading.specs.Number.{Taken, taken, unclosed, takes}
 use Rattle.reading.specs.Reading.{Read, read}
 use Rattle.reader.specs.Reader.{GivesOf}
 use Rattle.reader.specs.Kinds.{number_of}
@@ -18,6 +18,10 @@ letter b = (leb 0x41 b && leb b 0x5A) || (leb 0x61 b && leb b 0x7A)
 abbrev pub past : ℕ → Taken → Option ℕ
 past at (taken w r) = Some (at + length w)
 past at unclosed = None
+
+-- where the bytes of a sort from a place on end, for each sort that a test decides
+abbrev pub EndsAt : (ℕ → Bool → Type 0) → List ℕ → ℕ → ℕ → Type 0
+EndsAt post t at e = (p : ℕ → Bool) → ((b : ℕ) (r : Bool) → post b r → r ≡ p b) → Some e ≡ past at (takes p (drop at t))
 
 -- a lexeme from a place to its end, or what cannot be read there
 abbrev pub closed : Kind → ℕ → Option ℕ → Lexeme

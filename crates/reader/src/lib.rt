@@ -8,7 +8,7 @@ ghost use Rattle.reading.specs.Number.{takes, number as number'};
 ghost use Rattle.reading.specs.Reading.{operator_byte as operator_byte', through, closing, opened, read as read'};
 ghost use Rattle.reader.specs.Reader.{end, stop, Gives};
 ghost use Rattle.reader.specs.Kinds.{number_of, Names};
-ghost use Rattle.reader.specs.Places.{letter as letter', past, closed as closed', Skips, Found, FoundAt};
+ghost use Rattle.reader.specs.Places.{letter as letter', past, closed as closed', EndsAt, Skips, Found, FoundAt};
 
 // What a text may have next.
 #[derive(Clone, Copy, PartialEq, Eq)]
@@ -166,7 +166,7 @@ fn operator_byte(b: u8) -> bool
 fn bytes_end<S: Fn(u8) -> bool>(text: &[u8], at: usize, sort: S) -> usize
     requires inside { at ≤ length text.now }
     requires callable { S.IsAlwaysCallable sort }
-    ensures { (p : ℕ → Bool) → ((b : ℕ) (r : Bool) → S.post sort b r → r ≡ p b) → Some result ≡ past at (takes p (drop at text.now)) }
+    ensures { EndsAt (S.post sort) text.now at result }
 {
     for i in at..text.len() {
         if !sort(text[i]) {
@@ -180,7 +180,7 @@ fn bytes_end<S: Fn(u8) -> bool>(text: &[u8], at: usize, sort: S) -> usize
 fn eights_end<S: Fn(u8) -> bool>(text: &[u8], at: usize, sort: S) -> usize
     requires inside { at ≤ length text.now }
     requires callable { S.IsAlwaysCallable sort }
-    ensures { (p : ℕ → Bool) → ((b : ℕ) (r : Bool) → S.post sort b r → r ≡ p b) → Some result ≡ past at (takes p (drop at text.now)) }
+    ensures { EndsAt (S.post sort) text.now at result }
 {
     let mut i = at;
     while EIGHT <= text.len() - i {
@@ -194,11 +194,11 @@ fn eights_end<S: Fn(u8) -> bool>(text: &[u8], at: usize, sort: S) -> usize
     bytes_end(text, i, sort)
 }
 
-// The same of what may be long: by eights behind its first bytes, which most lexemes do not go beyond.
+// The same of what may be long: by eights behind its first bytes, so that a short lexeme costs no turn of eight.
 fn long_end<S: Fn(u8) -> bool>(text: &[u8], at: usize, sort: S) -> usize
     requires inside { at ≤ length text.now }
     requires callable { S.IsAlwaysCallable sort }
-    ensures { (p : ℕ → Bool) → ((b : ℕ) (r : Bool) → S.post sort b r → r ≡ p b) → Some result ≡ past at (takes p (drop at text.now)) }
+    ensures { EndsAt (S.post sort) text.now at result }
 {
     let near = at + NEAR.min(text.len() - at);
     for j in at..near {
