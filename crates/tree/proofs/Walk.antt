@@ -172,7 +172,7 @@ module _ (t x : List ℕ) (r : Record) (i left : ℕ) (c : Class) where
 
     -- behind a record with no fault come its children
     module _ (z : Admitted ≡ met_at t x r i left c) (l : left ≤ 64) where
-      goes_on : (ps : List Place)
+      pub goes_on : (ps : List Place)
           → scan t x (count t - i) i (place (65 - left) c ∷ ps)
           ≡ scan t x (count t - (i + 1)) (i + 1) (map (place (65 - (left - 1))) (holds c r) ++ ps)
       goes_on ps =
