@@ -1,18 +1,18 @@
--- What holds of a walk and of a row of places that need not go on: `Comes` is `Walks` without `onward`, and `Leads` is `Along` without it.
-use Rattle.std.specs.Prelude.{ℕ, ◌+◌, ◌-◌, ◌≤◌, ◌<◌, ◌≡◌, List, [], ◌∷◌, ◌++◌, map, Result, Ok, Err, IfOk, IfErr}
+-- Laws of a walk, and of a row of places, whose end is not known to be behind its start: `Comes` is `Walks` without `onward`, and `Leads` is
+-- `Along` without it. The laws of `Steps` and `Whole` go by these.
+use Rattle.std.specs.Prelude.{ℕ, suc, ◌+◌, ◌-◌, ◌≤◌, ◌<◌, ◌≡◌, List, [], ◌∷◌, ◌++◌, map, Result, Ok, Err, IfOk, IfErr}
 use Rattle.std.proofs.Common.{arith, ◌∙◌, sym}
 use Rattle.record.specs.Record.{record_at, count}
 use Rattle.record.specs.declared.Record.{Record}
 use Rattle.grammar.specs.Shape.{Class}
 use Rattle.grammar.specs.Grammar.{root}
 use Rattle.grammar.specs.Classes.{class_at, root_at, root_is}
-use Rattle.tree.specs.Check.{Admitted, Place, place, holds, scan}
+use Rattle.tree.specs.Check.{Admitted, Place, place, holds, scan_in, scan}
 use Rattle.tree.specs.declared.Refusal.{Refusal}
 use Rattle.tree.specs.declared.Refusal.TheVariants.{Ends}
 use Rattle.tree.specs.Walk.{refused as refusals, Small, Crosses, Walks, resumed, met_at}
 use Rattle.tree.specs.Steps.{Along}
 use Rattle.tree.proofs.Walk.{goes_on, met_small, met_stops}
-use Rattle.tree.proofs.Whole as whole
 
 -- w is what the records from index i on come to that must fill the places ps, whatever places follow; an index behind them is no
 -- further than the tree's end
@@ -33,11 +33,15 @@ module _ {t x : List ℕ} {i : ℕ} {ps : List Place} where
   pub leads : {j : ℕ} {qs : List Place} → Along t x i ps j qs → Leads t x i ps j qs
   leads a = record { ended = a.ended; is = a.is }
 
+  -- of a walk that is refused nothing more is said
+  pub stopped : {e : Refusal} → Comes t x i ps (Err e) → Walks t x i ps (Err e)
+  stopped w = record { onward = tt; is = w.is; ended = tt; small = w.small }
+
 pub crosses : {t x : List ℕ} {i : ℕ} {ps : List Place} (w : Result ℕ Refusal) → count t < refusals → Comes t x i ps w → Crosses w
 crosses (Ok j) h w = omega (arith, w.ended)
 crosses (Err e) h w = w.small
 
--- ---- the walk of the root begins at index 0, so it goes on
+-- ---- from the walk of the root to the scan of all records
 module _ (t x : List ℕ) (w : Result ℕ Refusal) (walked : Comes t x 0 (place 1 (class_at root_at) ∷ []) w) where
   pub scanned : scan t x (count t) 0 (place 1 root ∷ []) ≡ resumed t x w []
   scanned =
@@ -49,14 +53,18 @@ module _ (t x : List ℕ) where
   refused e w = sym (scanned t x (Err e) w)
 
   module _ (k : ℕ) (w : Comes t x 0 (place 1 (class_at root_at) ∷ []) (Ok k)) where
-    walks : Walks t x 0 (place 1 (class_at root_at) ∷ []) (Ok k)
-    walks = record { onward = omega arith; is = w.is; ended = w.ended; small = tt }
-
+    -- the records that are left over are refused at the first
     pub left_over : k < count t → Err (Ends k) ≡ scan t x (count t) 0 (place 1 root ∷ [])
-    left_over h = whole.left_over t x k walks h
+    unfolding scan_in
+    left_over h =
+        let z : count t - k ≡ suc (count t - suc k) = omega arith in
+        sym (scanned t x (Ok k) w ∙ rw z)
 
     pub all_filled : count t ≤ k → Admitted ≡ scan t x (count t) 0 (place 1 root ∷ [])
-    all_filled h = whole.all_filled t x k walks h
+    unfolding scan_in
+    all_filled h =
+        let z : count t - k ≡ 0 = omega arith in
+        sym (scanned t x (Ok k) w ∙ rw z)
 
 module _ (t x : List ℕ) (r : Record) (i left : ℕ) (c : Class) (re : r ≡ record_at t i) (z : Admitted ≡ met_at t x r i left c) (l : left ≤ 64) where
   pub down : (w : Result ℕ Refusal) → Comes t x (i + 1) (map (place (65 - (left - 1))) (holds c r)) w → Comes t x i (place (65 - left) c ∷ []) w

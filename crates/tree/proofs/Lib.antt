@@ -1,5 +1,5 @@
 pub mod Walk
+pub mod Comes
 pub mod Steps
 pub mod Whole
 pub mod Bounds
-pub mod Comes

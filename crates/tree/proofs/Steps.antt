@@ -16,7 +16,8 @@ use Rattle.tree.specs.Check.{Admitted, Place, place, holds, fits, scan}
 use Rattle.tree.specs.Laws.{token_holds}
 use Rattle.tree.specs.declared.Refusal.{Refusal}
 use Rattle.tree.specs.Walk.{refused, Small, Walks, met_at}
-use Rattle.tree.proofs.Walk.{met_stops, met_small, down}
+use Rattle.tree.proofs.Comes as weak
+use Rattle.tree.proofs.Comes.{comes, leads, stopped}
 use Rattle.tree.specs.Steps.{Along}
 
 -- ---- the children of a record that fits
@@ -92,29 +93,29 @@ nothing_walked t x i h = record { onward = omega arith; is = λ rest. refl; ende
 -- along what may stand in the places: cs is left
 module _ (t x : List ℕ) (i : ℕ) (ps : List Place) (j left : ℕ) (cs : List Class) (a : Along t x i ps j (map (place (65 - left)) cs)) where
   pub row_end : cs ≡ [] → Walks t x i ps (Ok j)
-  row_end e = record { onward = a.onward; is = λ rest. sym (rw e at (a.is rest)); ended = a.ended; small = tt }
+  row_end e = let w = weak.row_end t x i ps j left cs (leads a) e in record { onward = a.onward; is = w.is; ended = w.ended; small = tt }
 
   module _ (c : Class) (ds : List Class) (split : cs ≡ c ∷ ds) where
     from_here : (rest : List Place) → scan t x (count t - j) j (place (65 - left) c ∷ (map (place (65 - left)) ds ++ rest)) ≡ scan t x (count t - i) i (ps ++ rest)
-    from_here rest = rw split at (a.is rest)
+    from_here = weak.from_here t x i ps j left cs (leads a) c ds split
 
     -- the next place is where the walk stops
     stops : (e : Refusal) → Small e → ((qs : List Place) → scan t x (count t - j) j (place (65 - left) c ∷ qs) ≡ Err e) → Walks t x i ps (Err e)
-    stops e s w = record { onward = tt; is = λ rest. sym (from_here rest) ∙ w (map (place (65 - left)) ds ++ rest); ended = tt; small = s }
+    stops e s w = stopped (weak.stops t x i ps j left cs (leads a) c ds split e s w)
 
     -- in it is no record, or one with a fault; or one with none, and all below it come to w
     module _ (r : Record) (re : r ≡ record_at t j) where
       pub row_refused : count t < refused → (e : Refusal) → Err e ≡ met_at t x r j left c → Walks t x i ps (Err e)
-      row_refused few e h = stops e (met_small t x r j left c e (omega (arith, a.ended)) h) (met_stops t x r j left c re e h)
+      row_refused few e h = stopped (weak.row_refused t x i ps j left cs (leads a) c ds split r re few e h)
 
       module _ (z : Admitted ≡ met_at t x r j left c) (l : left ≤ 64) where
         pub row_stops : (e : Refusal) → Walks t x (j + 1) (map (place (65 - (left - 1))) (holds c r)) (Err e) → Walks t x i ps (Err e)
-        row_stops e w = stops e w.small (down t x r j left c re z l (Err e) w).is
+        row_stops e w = stopped (weak.row_stops t x i ps j left cs (leads a) c ds split r re z l e (comes w))
 
         pub row_filled : (k : ℕ) → Walks t x (j + 1) (map (place (65 - (left - 1))) (holds c r)) (Ok k) → Along t x i ps k (map (place (65 - left)) ds)
         row_filled k w =
-            let d = down t x r j left c re z l (Ok k) w in
-            record { onward = omega (arith, a.onward, d.onward); ended = w.ended; is = λ rest. sym (d.is (map (place (65 - left)) ds ++ rest)) ∙ from_here rest }
+            let b = weak.row_filled t x i ps j left cs (leads a) c ds split r re z l k (comes w) in
+            record { onward = omega (arith, a.onward, w.onward); ended = b.ended; is = b.is }
 
 -- the first of n that are left, and the others; and that none is left
 module _ (p n : ℕ) where
